@@ -1,0 +1,23 @@
+-- The listings of document 01 pass the tests that the theorems ask for: by computation. Assumes nothing.
+use mathlib.Core.Path.{_≡_, refl}
+use mathlib.Core.Bool.{Bool, true, false, cond, not, _&&_, Bool·beq}
+use mathlib.Core.List.{List, [], _∷_, map}
+use Prim.Native.Nat.{ℕ}
+use lib.Dec.{ltb}
+use lib.ListN.{length}
+use Rattle.rules.specs.Types.{groups, isGroup}
+use Rattle.rules.specs.Listings.{allKinds, levels, messages, book, seek, seekMessage, listing, messageOf}
+use Rattle.rules.specs.Sound.{everyLine, clash, distinct, everyLevel, everyMessage, sound}
+
+pub book-sound : sound book ≡ true
+unfolding sound book levels messages everyLevel everyMessage everyLine distinct clash isGroup groups
+book-sound = refl
+
+-- the pair t/i is listed in the body of a message on kind k
+abbrev pub listedIn : ℕ → ℕ → ℕ → ℕ → Bool
+listedIn message t i k = ltb (seek (listing book (messageOf book message .body)) k t i) (length (listing book (messageOf book message .body)))
+
+-- on every kind 180/1 is listed in exactly one of 66 and 67
+pub one-of-two : map (λ (k : ℕ). Bool·beq (listedIn 66 180 1 k) (not (listedIn 67 180 1 k))) allKinds ≡ true ∷ true ∷ true ∷ []
+unfolding book levels messages seek seekMessage listing messageOf
+one-of-two = refl

@@ -1,0 +1,127 @@
+-- The first check that applies is given, and a check is given in no other case. Assumes nothing.
+--     first-append   first of two lists of checks
+--     all-pass       none applies exactly where acceptance is given
+--     in-its-case    where each check has a number of its own, a number is given exactly where its check applies and none before it does
+use mathlib.Core.Path.{_≡_, refl, sym, ap, _∙_}
+use mathlib.Core.Logic.{_⊎_, inl, inr, _↔_}
+use mathlib.Core.Bool.{Bool, true, false, cond}
+use mathlib.Core.List.{List, [], _∷_, _++_}
+use Prim.Native.Nat.{ℕ, zero, suc, _+_, _≤_, _<_}
+use native.Mathlib.Omega.{arith}
+use borrow.Author.Tests.{ltb-true, ltb-false, lt-ltb, le-ltb}
+use lib.Dec.{ltb}
+use lib.ListN.{length, getD}
+use Rattle.rules.specs.Verdicts.{accepted, check, refuses, first}
+use Rattle.rules.specs.declared.Verdict.{Verdict}
+
+append-case : (us vs : List Verdict) (u : Verdict) (r : Bool) → refuses u ≡ r → first (us ++ vs) ≡ cond (refuses (first us)) (first us) (first vs)
+    → cond r u (first (us ++ vs)) ≡ cond (refuses (cond r u (first us))) (cond r u (first us)) (first vs)
+append-case us vs u true e f = rw e
+append-case us vs u false e f = f
+
+pub first-append : (us vs : List Verdict) → first (us ++ vs) ≡ cond (refuses (first us)) (first us) (first vs)
+unfolding first
+first-append [] vs = refl
+first-append (u ∷ us) vs = append-case us vs u (refuses u) refl (first-append us vs)
+
+-- a verdict that refuses nothing, and comes of a check, is acceptance
+pub check-off : (b : Bool) (v : Verdict) → refuses v ≡ true → refuses (check b v) ≡ b
+unfolding check
+check-off true v e = e
+check-off false v e = refl
+
+-- none of the checks applies
+unfoldable pub AllPass : List Verdict → Type 0
+AllPass [] = Unit {0}
+AllPass (v ∷ vs) = (refuses v ≡ false) × AllPass vs
+
+pass-case : (v : Verdict) (vs : List Verdict) (r : Bool) → refuses v ≡ r → (refuses (first vs) ≡ false → AllPass vs)
+    → refuses (cond r v (first vs)) ≡ false → (refuses v ≡ false) × AllPass vs
+pass-case v vs true e f z = let y : _≡_ {A = ℕ} 0 1 = cc in absurd (omega arith)
+pass-case v vs false e f z = (e, f z)
+
+pub all-pass : (vs : List Verdict) → (refuses (first vs) ≡ false) ↔ AllPass vs
+unfolding first AllPass
+all-pass [] = (λ e. tt, λ a. refl)
+all-pass (v ∷ vs) = (λ e. pass-case v vs (refuses v) refl (all-pass vs .0) e, λ a. rw (a .0) (all-pass vs .1 (a .1)))
+
+pub first-pass : (vs : List Verdict) → AllPass vs → first vs ≡ accepted
+unfolding first AllPass
+first-pass [] a = refl
+first-pass (v ∷ vs) a = rw (a .0) (first-pass vs (a .1))
+
+-- ---- numbers of their own
+
+-- check by check, the number is the one in the list where the check applies; the numbers rise, from above lo
+unfoldable pub Numbered : ℕ → List ℕ → List Verdict → Type 0
+Numbered lo [] [] = Unit {0}
+Numbered lo [] (v ∷ vs) = ⊥
+Numbered lo (n ∷ ns) [] = ⊥
+Numbered lo (n ∷ ns) (v ∷ vs) = (lo < n) × ((v .code ≡ 0) ⊎ (v .code ≡ n)) × Numbered n ns vs
+
+pub above : (lo : ℕ) (ns : List ℕ) (vs : List Verdict) → Numbered lo ns vs → (first vs .code ≡ 0) ⊎ (lo < first vs .code)
+unfolding first Numbered
+above lo [] [] a = inl refl
+above lo [] (v ∷ vs) a = absurd a
+above lo (n ∷ ns) [] a = absurd a
+above lo (n ∷ ns) (v ∷ vs) a = go (refuses v) refl (a .1) (above n ns vs (a .2))
+  where
+    go : (r : Bool) → refuses v ≡ r → (v .code ≡ 0) ⊎ (v .code ≡ n) → (first vs .code ≡ 0) ⊎ (n < first vs .code)
+        → (cond r v (first vs) .code ≡ 0) ⊎ (lo < cond r v (first vs) .code)
+    go true e (inl z) w = inl z
+    go true e (inr z) w = inr (omega (arith, a .0))
+    go false e x (inl z) = inl z
+    go false e x (inr z) = inr (omega (arith, a .0))
+
+higher : (lo : ℕ) (ns : List ℕ) (vs : List Verdict) → Numbered lo ns vs → (j : ℕ) → j < length ns → lo < getD ns j 0
+unfolding Numbered
+higher lo [] [] a j l = absurd (omega arith)
+higher lo [] (v ∷ vs) a j l = absurd a
+higher lo (n ∷ ns) [] a j l = absurd a
+higher lo (n ∷ ns) (v ∷ vs) a zero l = a .0
+higher lo (n ∷ ns) (v ∷ vs) a (suc j) l = omega (arith, a .0, higher n ns vs (a .2) j (omega arith))
+
+-- check number j applies, and none before it does
+pub record OwnCase (vs : List Verdict) (j : ℕ) : Type 0 where
+  pub applies : refuses (getD vs j accepted) ≡ true
+  pub none-before : (i : ℕ) → i < j → refuses (getD vs i accepted) ≡ false
+
+pub in-its-case : (lo : ℕ) (ns : List ℕ) (vs : List Verdict) → Numbered lo ns vs → (j : ℕ) → j < length ns
+    → (first vs .code ≡ getD ns j 0) ↔ OwnCase vs j
+unfolding first Numbered
+in-its-case lo [] [] a j l = absurd (omega arith)
+in-its-case lo [] (v ∷ vs) a j l = absurd a
+in-its-case lo (n ∷ ns) [] a j l = absurd a
+in-its-case lo (n ∷ ns) (v ∷ vs) a zero l = (to (refuses v) refl, from)
+  where
+    to : (r : Bool) → refuses v ≡ r → cond r v (first vs) .code ≡ n → OwnCase (v ∷ vs) zero
+    to true e z = record { applies = e; none-before = λ i k. absurd (omega arith) }
+    to false e z = clash (above n ns vs (a .2))
+      where
+        clash : (first vs .code ≡ 0) ⊎ (n < first vs .code) → OwnCase (v ∷ vs) zero
+        clash (inl y) = absurd (omega (arith, a .0))
+        clash (inr y) = absurd (omega arith)
+
+    from : OwnCase (v ∷ vs) zero → cond (refuses v) v (first vs) .code ≡ n
+    from c = rw (c .applies) (pick (a .1))
+      where
+        pick : (v .code ≡ 0) ⊎ (v .code ≡ n) → v .code ≡ n
+        pick (inl z) = absurd (omega (arith, ltb-true 0 (v .code) (c .applies)))
+        pick (inr z) = z
+in-its-case lo (n ∷ ns) (v ∷ vs) a (suc j) l =
+    (to (refuses v) refl (in-its-case n ns vs (a .2) j (omega arith) .0), from (in-its-case n ns vs (a .2) j (omega arith) .1))
+  where
+    more : OwnCase vs j → refuses v ≡ false → (i : ℕ) → i < suc j → refuses (getD (v ∷ vs) i accepted) ≡ false
+    more c e zero k = e
+    more c e (suc i) k = c .none-before i (omega arith)
+
+    to : (r : Bool) → refuses v ≡ r → (first vs .code ≡ getD ns j 0 → OwnCase vs j) → cond r v (first vs) .code ≡ getD ns j 0 → OwnCase (v ∷ vs) (suc j)
+    to true e f z = clash (a .1)
+      where
+        clash : (v .code ≡ 0) ⊎ (v .code ≡ n) → OwnCase (v ∷ vs) (suc j)
+        clash (inl y) = absurd (omega (arith, ltb-true 0 (v .code) e))
+        clash (inr y) = absurd (omega (arith, higher n ns vs (a .2) j (omega arith)))
+    to false e f z = let c = f z in record { applies = c .applies; none-before = more c e }
+
+    from : (OwnCase vs j → first vs .code ≡ getD ns j 0) → OwnCase (v ∷ vs) (suc j) → cond (refuses v) v (first vs) .code ≡ getD ns j 0
+    from f c = rw (c .none-before 0 (omega arith)) (f (record { applies = c .applies; none-before = λ i k. c .none-before (suc i) (omega arith) }))

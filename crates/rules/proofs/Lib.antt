@@ -1,0 +1,12 @@
+pub mod Heads
+pub mod Walks
+pub mod Mets
+pub mod Checks
+pub mod Lines
+pub mod Standings
+pub mod Rows
+pub mod Header
+pub mod Repeats
+pub mod Covers
+pub mod Book
+pub mod Examples

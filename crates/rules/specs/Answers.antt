@@ -1,0 +1,87 @@
+-- What each public function answers and leaves, for every input: the statements that the code's contracts cite whole. Assumes nothing.
+use mathlib.Core.Path.{_≡_}
+use Prim.Native.Nat.{ℕ, _/_}
+use mathlib.Core.Bool.{Bool, true, false, cond}
+use mathlib.Core.List.{List, []}
+use lib.ListN.{length}
+use denote.Ref.{RefT, now}
+use Rattle.rules.specs.Listings.{Book, book}
+use Rattle.rules.specs.Standing.{Item}
+use Rattle.rules.specs.Taking.{Out, cut, whole, taken, bodyLevel, itemsIn}
+use Rattle.rules.specs.Table.{rowsOf, keptRows, laid, fitting}
+use Rattle.rules.specs.Verdicts.{accepted, first, refuses, headerChecks, framingChecks, shortVerdict, lackVerdict, items, judgeVerdict, maskVerdict, judgeTable}
+use Rattle.rules.specs.Covered.{maskCopy}
+use Rattle.rules.specs.Values.{Stands, deskSpan, plainSpan}
+use Rattle.rules.specs.Octets.{fiveLaid, tableRoom, judgeOctets}
+use Rattle.rules.specs.declared.Verdict.{Verdict}
+use Rattle.rules.specs.declared.Reading.{Reading}
+
+-- ---- the reading of a message
+
+-- refused by 1 to 9: nothing is counted
+abbrev pub refusedReading : Verdict → Reading
+refusedReading v = record { refusal = v; rows = 0; kept = 0; short = accepted; lack = accepted }
+
+module _ (b : Book) (k : ℕ) (m : List ℕ) where
+  unfoldable pub readingOf : Reading
+  readingOf =
+      cond (refuses (first (framingChecks b k m))) (refusedReading (first (framingChecks b k m)))
+      (record {
+        refusal = accepted;
+        rows = length (items b k m);
+        kept = keptRows (items b k m);
+        short = shortVerdict (items b k m);
+        lack = lackVerdict b k (bodyLevel b m) (items b k m);
+      })
+
+  -- the elements that a reading takes: none if 1 to 8 apply, those before the cut if 9 does
+  unfoldable pub readItems : List Item
+  readItems = cond (refuses (first (headerChecks b k m))) [] (items b k m)
+
+  -- the rows of those elements, as many as there is room for, over the start of what is lent
+  unfoldable pub readRows : List ℕ → List ℕ
+  readRows rows = laid (rowsOf (fitting (length rows) readItems)) rows
+
+pub record Read (kind : ℕ) (message rows : List ℕ) (answer : Reading) (rows′ : List ℕ) : Type 0 where
+  pub answers : answer ≡ readingOf book kind message
+  pub rows-left : rows′ ≡ readRows book kind message rows
+
+-- ---- the judge
+
+pub record Judged (kind : ℕ) (message table : List ℕ) (answer : Verdict) (table′ : List ℕ) : Type 0 where
+  pub answers : answer ≡ judgeVerdict book kind message (length table)
+  pub table-left : table′ ≡ judgeTable book kind message table
+
+-- ---- the masker
+
+pub record Masked (kind : ℕ) (message copy : List ℕ) (answer : Verdict) (copy′ : List ℕ) : Type 0 where
+  pub answers : answer ≡ maskVerdict book kind message (length copy)
+  pub copy-left : copy′ ≡ maskCopy book kind message copy
+
+-- ---- the lookups and their companions
+
+abbrev pub Plain : ℕ → ℕ → RefT (List ℕ) → List ℕ → RefT (List ℕ) → Type 0
+Plain typ inst message table part = Stands message (plainSpan typ inst (length (now message)) table) part
+
+abbrev pub PlainFound : ℕ → ℕ → List ℕ → List ℕ → Bool → Type 0
+PlainFound typ inst message table answer = answer ≡ plainSpan typ inst (length message) table .there
+
+-- the part of the message for yes, or of the copy for no
+abbrev pub Desk : ℕ → Bool → RefT (List ℕ) → RefT (List ℕ) → List ℕ → RefT (List ℕ) → Type 0
+Desk row right message copy table part =
+    Stands (cond right message copy) (deskSpan row (length (now message)) (length (now copy)) table) part
+
+abbrev pub DeskFound : ℕ → List ℕ → List ℕ → List ℕ → Bool → Type 0
+DeskFound row message copy table answer = answer ≡ deskSpan row (length message) (length copy) table .there
+
+-- ---- the exports to C: the code is the result
+
+pub record JudgedOctets (kind : ℕ) (message table five : List ℕ) (code : ℕ) (table′ five′ : List ℕ) : Type 0 where
+  pub answers : code ≡ judgeVerdict book kind message (tableRoom table) .code
+  pub table-left : table′ ≡ judgeOctets book kind message table
+  pub five-left : five′ ≡ fiveLaid (judgeVerdict book kind message (tableRoom table)) five
+
+pub record MaskedOctets (kind : ℕ) (message copy five : List ℕ) (code : ℕ) (copy′ five′ : List ℕ) : Type 0 where
+  pub answers : code ≡ maskVerdict book kind message (length copy) .code
+  pub copy-left : copy′ ≡ maskCopy book kind message copy
+  pub five-left : five′ ≡ fiveLaid (maskVerdict book kind message (length copy)) five

@@ -1,0 +1,62 @@
+-- Covered octets, and the masked copy. Assumes nothing.
+use Prim.Native.Nat.{ℕ, _+_, _-_}
+use mathlib.Core.Bool.{Bool, true, false, cond, not, _&&_, _||_}
+use mathlib.Core.List.{List, [], _∷_, _++_}
+use lib.Dec.{eqb, ltb, leb}
+use lib.ListN.{length, take, drop, replicate}
+use Rattle.rules.specs.Types.{coversWhole, coversRest}
+use Rattle.rules.specs.Listings.{Book}
+use Rattle.rules.specs.Standing.{Item, kept, unexpected, repeated, short, valuePlace, valueEnd}
+use Rattle.rules.specs.Table.{laid}
+use Rattle.rules.specs.Verdicts.{first, refuses, framingChecks, items, maskVerdict}
+
+-- ---- in document 01's words
+
+abbrev pub isValueOctet : Item → ℕ → Bool
+isValueOctet i j = leb (valuePlace i) j && ltb j (valueEnd i)
+
+-- each value octet of a row of standing 1 or 2
+abbrev pub isAside : ℕ → Bool
+isAside s = eqb s unexpected || eqb s repeated
+
+-- and all but the first value octet of a row of type 79 of standing 0 or 3
+abbrev pub coversButFirst : Item → ℕ → Bool
+coversButFirst i j = coversRest (i .typ) && (eqb (i .stand) kept || eqb (i .stand) short) && not (eqb j (valuePlace i))
+
+-- octet j is covered for the sake of the row i
+unfoldable pub coveredBy : Item → ℕ → Bool
+coveredBy i j = isValueOctet i j && (isAside (i .stand) || coversWhole (i .typ) || coversButFirst i j)
+
+unfoldable pub coveredIn : List Item → ℕ → Bool
+coveredIn [] j = false
+coveredIn (i ∷ is) j = coveredBy i j || coveredIn is j
+
+-- Nothing else is covered, and nothing at all for a message refused by 1 to 9.
+unfoldable pub covered : Book → ℕ → List ℕ → ℕ → Bool
+covered b k m j = not (refuses (first (framingChecks b k m))) && coveredIn (items b k m) j
+
+-- ---- by clearing values
+
+-- how many leading octets of a value of so many octets are left open, by its type and standing
+unfoldable pub openOctets : ℕ → ℕ → ℕ → ℕ
+openOctets t s n = cond (isAside s || coversWhole t) 0 (cond (coversRest t && ltb 0 n) 1 n)
+
+-- n octets from a on made zero
+unfoldable pub zeroed : List ℕ → ℕ → ℕ → List ℕ
+zeroed xs a n = take a xs ++ (replicate n 0 ++ drop (a + n) xs)
+
+-- the part of a row's value that is not open made zero
+abbrev pub cleared : List ℕ → Item → List ℕ
+cleared xs i = zeroed xs (valuePlace i + openOctets (i .typ) (i .stand) (i .len)) (i .len - openOctets (i .typ) (i .stand) (i .len))
+
+unfoldable pub clearAll : List ℕ → List Item → List ℕ
+clearAll xs [] = xs
+clearAll xs (i ∷ is) = clearAll (cleared xs i) is
+
+-- the message with every covered octet zero
+unfoldable pub masked : Book → ℕ → List ℕ → List ℕ
+masked b k m = clearAll m (items b k m)
+
+-- The masker writes nothing if a check applies; octets past the message's length stay.
+unfoldable pub maskCopy : Book → ℕ → List ℕ → List ℕ → List ℕ
+maskCopy b k m copy = cond (refuses (maskVerdict b k m (length copy))) copy (laid (masked b k m) copy)

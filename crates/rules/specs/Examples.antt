@@ -1,0 +1,124 @@
+-- Checked examples A to M of document 01: what is asked, and what comes out as it is written there. Assumes nothing.
+use Prim.Native.Nat.{ℕ}
+use mathlib.Core.Bool.{Bool, true, false, cond}
+use mathlib.Core.List.{List, [], _∷_, _++_}
+use lib.ListN.{length, take, drop, set, replicate}
+use Rattle.rules.specs.Listings.{book}
+use Rattle.rules.specs.Verdicts.{accepted, refused, refusedAt, judgeVerdict, judgeTable, maskVerdict}
+use Rattle.rules.specs.Covered.{maskCopy}
+use Rattle.rules.specs.declared.Verdict.{Verdict}
+
+pub data Call : Type 0 where
+  judging masking : Call
+
+-- the letter of the example, the call, the kind, the message and what is lent; then the verdict and what is left in what was lent
+pub record Example : Type 0 where
+  pub letter : ℕ
+  pub call : Call
+  pub kind : ℕ
+  pub message : List ℕ
+  pub lent : List ℕ
+  pub verdict : Verdict
+  pub left : List ℕ
+
+pub record Outcome : Type 0 where
+  pub verdict : Verdict
+  pub left : List ℕ
+
+-- a table of zeros with room for three rows and one number more
+abbrev pub zeros : List ℕ
+zeros = replicate 23 0
+
+abbrev pub judge : ℕ → ℕ → List ℕ → Verdict → List ℕ → Example
+judge x k m v numbers =
+    record { letter = x; call = judging; kind = k; message = m; lent = zeros; verdict = v; left = numbers ++ drop (length numbers) zeros }
+
+abbrev pub mask : ℕ → ℕ → List ℕ → Verdict → List ℕ → Example
+mask x k m v copy = record { letter = x; call = masking; kind = k; message = m; lent = zeros; verdict = v; left = copy ++ drop (length copy) zeros }
+
+-- ---- the messages
+
+abbrev pub messageD : List ℕ
+messageD = 0x40 ∷ 0x01 ∷ 0x00 ∷ 0x09 ∷ 0x00 ∷ 0x00 ∷ 0x01 ∷ 0x00 ∷ 0x03 ∷ 0x00 ∷ 0x01 ∷ 0x00 ∷ 0x07 ∷ []
+
+abbrev pub messageE : List ℕ
+messageE = 0x40 ∷ 0x01 ∷ 0x00 ∷ 0x04 ∷ 0x00 ∷ 0x00 ∷ 0x01 ∷ 0x00 ∷ []
+
+abbrev pub headF : List ℕ
+headF = 0x40 ∷ 0x01 ∷ 0x00 ∷ 0x0D ∷ 0x00 ∷ 0x00 ∷ 0x01 ∷ 0x00 ∷ []
+
+abbrev pub firstF : List ℕ
+firstF = 0x03 ∷ 0x00 ∷ 0x01 ∷ 0x00 ∷ 0x07 ∷ []
+
+abbrev pub secondF : List ℕ
+secondF = 0x03 ∷ 0x00 ∷ 0x00 ∷ 0x00 ∷ []
+
+abbrev pub messageG : List ℕ
+messageG =
+    0x48 ∷ 0x42 ∷ 0x00 ∷ 0x11 ∷ 0x00 ∷ 0x00 ∷ 0x00 ∷ 0x01 ∷ 0x00 ∷ 0x00 ∷ 0x02 ∷ 0x00 ∷
+    0x5D ∷ 0x00 ∷ 0x05 ∷ 0x00 ∷ 0x49 ∷ 0x00 ∷ 0x01 ∷ 0x00 ∷ 0x05 ∷ []
+
+-- G's first 12 octets with another length
+abbrev pub headG : ℕ → List ℕ
+headG n = set (take 12 messageG) 3 n
+
+abbrev pub messageK : List ℕ
+messageK = set messageG 3 0x15 ++ (0xB4 ∷ 0x00 ∷ 0x00 ∷ 0x01 ∷ [])
+
+abbrev pub messageM : List ℕ
+messageM =
+    0x40 ∷ 0x01 ∷ 0x00 ∷ 0x0F ∷ 0x00 ∷ 0x00 ∷ 0x01 ∷ 0x00 ∷
+    0x03 ∷ 0x00 ∷ 0x01 ∷ 0x00 ∷ 0x07 ∷ 0xC8 ∷ 0x00 ∷ 0x02 ∷ 0x00 ∷ 0x11 ∷ 0x22 ∷ []
+
+-- the numbers of a table: its header, and a row
+abbrev pub head : ℕ → ℕ → ℕ → ℕ → List ℕ → List ℕ
+head a b c d rows = a ∷ b ∷ c ∷ d ∷ rows
+
+abbrev pub line : ℕ → ℕ → ℕ → ℕ → ℕ → ℕ → List ℕ → List ℕ
+line p t i a n s rows = p ∷ t ∷ i ∷ a ∷ n ∷ s ∷ rows
+
+-- ---- the table of examples
+
+unfoldable pub examples : List Example
+examples =
+    -- A: empty: 2
+    judge 0xA 1 [] (refused 2 0) [] ∷
+    -- B: `60`: 3
+    judge 0xB 1 (0x60 ∷ []) (refused 3 0) [] ∷
+    -- C: `40`: 4
+    judge 0xC 1 (0x40 ∷ []) (refused 4 0) [] ∷
+    -- D: table 1 1 4 10, 0 3 0 12 1 0; without its last octet: 6
+    judge 0xD 1 messageD accepted (head 1 1 4 10 (line 0 3 0 12 1 0 [])) ∷
+    judge 0xD 1 (take 12 messageD) (refused 6 67) [] ∷
+    -- E: 12, 70, 0, 3, 0
+    judge 0xE 1 messageE (refusedAt 12 70 0 3 0) [] ∷
+    -- F: accepted, second row 0 3 0 17 0 2; the two elements exchanged: 11, 67, 8, 3, 0
+    judge 0xF 1 (headF ++ firstF ++ secondF) accepted (head 2 1 4 16 (line 0 3 0 12 1 0 (line 0 3 0 17 0 2 []))) ∷
+    judge 0xF 1 (headF ++ secondF ++ firstF) (refusedAt 11 67 8 3 0) [] ∷
+    -- G: accepted; H: G with `60` for `5D`: 12, 70, 0, 93, 0
+    judge 0x10 1 messageG accepted (head 2 2 4 16 (line 0 93 0 16 5 0 (line 1 73 0 20 1 0 []))) ∷
+    judge 0x11 1 (set messageG 12 0x60) (refusedAt 12 70 0 93 0) [] ∷
+    -- I: 12, 70, 12, 73, 0
+    judge 0x12 1 (headG 0x0C ++ (0x5D ∷ 0x00 ∷ 0x00 ∷ 0x00 ∷ [])) (refusedAt 12 70 12 73 0) [] ∷
+    -- J: 9, 67, 16, 0, 0
+    judge 0x13 1
+    (headG 0x1A
+    ++ (0x5D ∷ 0x00 ∷ 0x05 ∷ 0x00 ∷ 0x49 ∷ 0x00 ∷ 0x0A ∷ 0x00 ∷ 0x05 ∷ 0x5D ∷ 0x00 ∷ 0x05 ∷ 0x00 ∷ 0x49 ∷ 0x00 ∷ 0x01 ∷ 0x00 ∷ 0x06 ∷ []))
+    (refusedAt 9 67 16 0 0) [] ∷
+    -- K: accepted, third row 0 180 1 25 0 1; L: K on kind 3: 12, 70, 21, 183, 0
+    judge 0x14 1 messageK accepted (head 3 2 4 22 (line 0 93 0 16 5 0 (line 1 73 0 20 1 0 (line 0 180 1 25 0 1 [])))) ∷
+    judge 0x15 3 messageK (refusedAt 12 70 21 183 0) [] ∷
+    -- M: the copy ends `00 00`
+    mask 0x16 1 messageM accepted (take 17 messageM ++ (0x00 ∷ 0x00 ∷ [])) ∷
+    []
+
+-- what comes out, and what is written
+abbrev pub outcome : Example → Outcome
+outcome x = by (x .call)
+  where
+    by : Call → Outcome
+    by judging = record { verdict = judgeVerdict book (x .kind) (x .message) (length (x .lent)); left = judgeTable book (x .kind) (x .message) (x .lent) }
+    by masking = record { verdict = maskVerdict book (x .kind) (x .message) (length (x .lent)); left = maskCopy book (x .kind) (x .message) (x .lent) }
+
+abbrev pub written : Example → Outcome
+written x = record { verdict = x .verdict; left = x .left }

@@ -1,0 +1,15 @@
+pub mod Sizes
+pub mod Framing
+pub mod Types
+pub mod Listings
+pub mod Standing
+pub mod Sound
+pub mod Taking
+pub mod Met
+pub mod Table
+pub mod Verdicts
+pub mod Covered
+pub mod Values
+pub mod Octets
+pub mod Answers
+pub mod Examples

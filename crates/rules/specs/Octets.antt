@@ -1,0 +1,30 @@
+-- The octet forms for the C receiver: two octets a number, high octet first. Assumes nothing.
+use Prim.Native.Nat.{ℕ, _/_, _%_}
+use mathlib.Core.Bool.{Bool, true, false, cond}
+use mathlib.Core.List.{List, [], _∷_}
+use lib.Dec.{ltb}
+use lib.ListN.{length}
+use Rattle.rules.specs.Sizes.{fiveOctets}
+use Rattle.rules.specs.Listings.{Book}
+use Rattle.rules.specs.Table.{laid, tableOf}
+use Rattle.rules.specs.Verdicts.{items, refuses, judgeVerdict}
+use Rattle.rules.specs.declared.Verdict.{Verdict}
+
+unfoldable pub octetsOf : List ℕ → List ℕ
+octetsOf [] = []
+octetsOf (x ∷ xs) = x / 256 ∷ x % 256 ∷ octetsOf xs
+
+abbrev pub five : Verdict → List ℕ
+five v = v .code ∷ v .cause ∷ v .place ∷ v .typ ∷ v .inst ∷ []
+
+-- A buffer for the five numbers under 10 octets is not written; octets past 10 stay.
+unfoldable pub fiveLaid : Verdict → List ℕ → List ℕ
+fiveLaid v buffer = cond (ltb (length buffer) fiveOctets) buffer (laid (octetsOf (five v)) buffer)
+
+-- A table's odd last octet is not used and stays.
+abbrev pub tableRoom : List ℕ → ℕ
+tableRoom octets = length octets / 2
+
+unfoldable pub judgeOctets : Book → ℕ → List ℕ → List ℕ → List ℕ
+judgeOctets b k m octets =
+    cond (refuses (judgeVerdict b k m (tableRoom octets))) octets (laid (octetsOf (tableOf (items b k m))) octets)

@@ -1,0 +1,52 @@
+-- What the theorems ask of listings: tests that are computed once over all levels. Assumes nothing.
+use Prim.Native.Nat.{ℕ}
+use mathlib.Core.Bool.{Bool, true, false, not, _&&_, _||_, Bool·beq}
+use mathlib.Core.List.{List, [], _∷_}
+use lib.Dec.{eqb, ltb, leb}
+use lib.ListN.{length}
+use Rattle.rules.specs.Types.{isGroup}
+use Rattle.rules.specs.Listings.{Line, Message, Book, anyInstance}
+use Rattle.rules.specs.Standing.{marksOf}
+
+abbrev pub all : List Bool → Bool
+all [] = true
+all (c ∷ cs) = c && all cs
+
+unfoldable pub everyLine : (Line → Bool) → List Line → Bool
+everyLine test [] = true
+everyLine test (l ∷ ls) = test l && everyLine test ls
+
+-- a line has an inside exactly where its type is a group, at a level that there is; its type is an octet; and a pair that is mandatory has one instance, of four bits
+abbrev pub lineTests : ℕ → Line → List Bool
+lineTests levels l =
+    Bool·beq (isGroup (l .typ)) (not (eqb (l .inside) 0))
+    ∷ ltb (l .inside) levels
+    ∷ ltb (l .typ) 256
+    ∷ leb (l .inst) anyInstance
+    ∷ (not (l .must) || ltb (l .inst) anyInstance)
+    ∷ []
+
+-- two lines list one pair
+unfoldable pub clash : Line → Line → Bool
+clash l l′ = eqb (l .typ) (l′ .typ) && (eqb (l .inst) (l′ .inst) || eqb (l .inst) anyInstance || eqb (l′ .inst) anyInstance)
+
+-- no pair is listed twice
+unfoldable pub distinct : List Line → Bool
+distinct [] = true
+distinct (l ∷ ls) = everyLine (λ l′. not (clash l l′)) ls && distinct ls
+
+-- each line passes, no pair is listed twice, and there is a mark for each line
+abbrev pub levelTests : ℕ → List Line → List Bool
+levelTests levels ls = everyLine (λ l. all (lineTests levels l)) ls ∷ distinct ls ∷ leb (length ls) marksOf ∷ []
+
+unfoldable pub everyLevel : ℕ → List (List Line) → Bool
+everyLevel levels [] = true
+everyLevel levels (ls ∷ more) = all (levelTests levels ls) && everyLevel levels more
+
+-- a body is a level that there is
+unfoldable pub everyMessage : ℕ → List Message → Bool
+everyMessage levels [] = true
+everyMessage levels (x ∷ xs) = (not (eqb (x .body) 0) && ltb (x .body) levels) && everyMessage levels xs
+
+unfoldable pub sound : Book → Bool
+sound b = everyLevel (length (b .levels)) (b .levels) && everyMessage (length (b .levels)) (b .messages)

@@ -1,0 +1,102 @@
+-- Standing of an element: kept, unexpected, repeated or short, by the listing of its level and what stood there before it. Assumes nothing.
+use Prim.Native.Nat.{ℕ, _+_}
+use mathlib.Core.Bool.{Bool, true, false, cond, not, _&&_, _||_}
+use mathlib.Core.List.{List}
+use lib.Dec.{eqb, ltb}
+use lib.ListN.{length, getD, set, replicate}
+use Rattle.rules.specs.Framing.{elementHeader}
+use Rattle.rules.specs.Types.{leastOf}
+use Rattle.rules.specs.Listings.{Line, Book, noLine, seek, listing}
+use Rattle.rules.specs.declared.Head.{Head}
+
+abbrev pub kept : ℕ
+kept = 0
+
+abbrev pub unexpected : ℕ
+unexpected = 1
+
+abbrev pub repeated : ℕ
+repeated = 2
+
+abbrev pub short : ℕ
+short = 3
+
+-- A level keeps a mark for each line of its listing: 0, the pair has not stood there yet; 1, it has; 2, it has and one was kept.
+abbrev pub marksOf : ℕ
+marksOf = 32
+
+-- a level begins with no pair seen
+abbrev pub fresh : List ℕ
+fresh = replicate marksOf 0
+
+-- a mark after an element of its pair
+unfoldable pub markAfter : ℕ → ℕ → ℕ
+markAfter old stand = cond (eqb stand kept || eqb old 2) 2 1
+
+-- below the least length
+unfoldable pub isShort : Head → Bool
+isShort h = ltb (h .len) (leastOf (h .typ) (h .first))
+
+module _ (b : Book) (k : ℕ) where
+  -- the number of the pair's line in the listing of level v, and that line
+  abbrev pub lineNumber : ℕ → Head → ℕ
+  lineNumber v h = seek (listing b v) k (h .typ) (h .inst)
+
+  abbrev pub lineIn : ℕ → Head → Line
+  lineIn v h = getD (listing b v) (lineNumber v h) noLine
+
+  -- the pair is listed at this level for this kind
+  abbrev pub isListed : ℕ → Head → Bool
+  isListed v h = ltb (lineNumber v h) (length (listing b v))
+
+  -- the pair stood earlier at this level, short ones included
+  abbrev pub stoodEarlier : ℕ → List ℕ → Head → Bool
+  stoodEarlier v m h = not (eqb (getD m (lineNumber v h) 0) 0)
+
+  -- the first that applies; a mandatory element that is short counts as 3 here, and is refusal 11
+  unfoldable pub standing : ℕ → List ℕ → Head → ℕ
+  standing v m h =
+      cond (not (isListed v h)) unexpected
+      (cond (not (lineIn v h .many) && stoodEarlier v m h) repeated
+      (cond (isShort h) short kept))
+
+  -- the marks of the level after the element; a pair that is not listed touches none
+  unfoldable pub marked : ℕ → List ℕ → Head → List ℕ
+  marked v m h =
+      cond (isListed v h) (set m (lineNumber v h) (markAfter (getD m (lineNumber v h) 0) (standing v m h))) m
+
+  -- Only a kept group is entered: the level of its inside, or 0.
+  unfoldable pub entered : ℕ → List ℕ → Head → ℕ
+  entered v m h = cond (eqb (standing v m h) kept) (lineIn v h .inside) 0
+
+-- An element as it is taken. `parent` is 0 for the message, else its parent's row number counted from 1; `place` is its first octet;
+-- `must` says that its pair is mandatory here; `inside` is the level that it is entered with, or 0.
+pub record Item : Type 0 where
+  pub parent : ℕ
+  pub place : ℕ
+  pub typ : ℕ
+  pub inst : ℕ
+  pub len : ℕ
+  pub stand : ℕ
+  pub must : Bool
+  pub inside : ℕ
+
+-- where its value begins, and where it ends
+abbrev pub valuePlace : Item → ℕ
+valuePlace i = i .place + elementHeader
+
+abbrev pub valueEnd : Item → ℕ
+valueEnd i = i .place + elementHeader + i .len
+
+-- the element with head h, at level v with marks m and parent p
+unfoldable pub itemOf : Book → ℕ → ℕ → List ℕ → ℕ → ℕ → Head → Item
+itemOf b k v m p place h = record {
+  parent = p;
+  place = place;
+  typ = h .typ;
+  inst = h .inst;
+  len = h .len;
+  stand = standing b k v m h;
+  must = lineIn b k v h .must;
+  inside = entered b k v m h;
+}

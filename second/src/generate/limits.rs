@@ -1,0 +1,122 @@
+//! Messages at the exact limits: 4,096 octets and 1,022 elements.
+
+use super::compose::{compose, good_value};
+use super::draft::{mend_length, Draft, Element, Run, Value};
+use super::random::Random;
+use super::Case;
+use crate::framing::{ELEMENT_HEADER, LONGEST_MESSAGE};
+use crate::listings::{self, Message, MESSAGES};
+
+pub fn at_limit(random: &mut Random) -> Case {
+    let shapes = [
+        filled,
+        one_too_long,
+        all_empty,
+        most_kept,
+        most_groups,
+        remnant,
+    ];
+    random.pick(&shapes)(random)
+}
+
+fn some_kind(random: &mut Random) -> u32 {
+    random.between(1, 3) as u32
+}
+
+fn some_message(random: &mut Random) -> &'static Message {
+    random.pick(&MESSAGES)
+}
+
+/// A good message filled to `length` octets by one long private extension.
+fn filled_to(random: &mut Random, length: usize) -> Case {
+    let kind = some_kind(random);
+    let message = some_message(random);
+    let mut octets = compose(random, kind, message).octets(random);
+    let value = length - octets.len() - ELEMENT_HEADER;
+    let inst = random.below(16) as u8;
+    let last = Element::plain(255, inst, random.octets(value));
+    let run = Run {
+        elements: vec![last],
+        remnant: Vec::new(),
+    };
+    run.put(&mut octets);
+    mend_length(&mut octets);
+    Case {
+        kind,
+        message: octets,
+    }
+}
+
+fn filled(random: &mut Random) -> Case {
+    filled_to(random, LONGEST_MESSAGE)
+}
+
+fn one_too_long(random: &mut Random) -> Case {
+    filled_to(random, LONGEST_MESSAGE + 1)
+}
+
+/// 4,096 octets and then one to three of them cut from the last element's
+/// claim, so that they are left over at the message's level.
+fn remnant(random: &mut Random) -> Case {
+    let left = random.between(1, 3);
+    let mut case = filled_to(random, LONGEST_MESSAGE - left);
+    case.message.extend(random.octets(left));
+    mend_length(&mut case.message);
+    case
+}
+
+fn echo(random: &mut Random, elements: Vec<Element>) -> Case {
+    let message = listings::message_of(random.between(1, 2) as u8).expect("echo is listed");
+    let body = Run {
+        elements,
+        remnant: Vec::new(),
+    };
+    Case {
+        kind: some_kind(random),
+        message: Draft { message, body }.octets(random),
+    }
+}
+
+fn empty_elements(random: &mut Random, count: usize) -> Vec<Element> {
+    let typ = *random.pick(&[3, 93, 152, 180, 200, 255]);
+    (0..count)
+        .map(|_| Element::plain(typ, 0, Vec::new()))
+        .collect()
+}
+
+/// The 1,022 elements that a message can hold at most, all empty.
+fn all_empty(random: &mut Random) -> Case {
+    let elements = empty_elements(random, 1022);
+    echo(random, elements)
+}
+
+/// The most elements of an accepted message: one value is needed.
+fn most_kept(random: &mut Random) -> Case {
+    let mut elements = vec![Element::plain(3, 0, random.octets(4))];
+    elements.extend(empty_elements(random, 1020));
+    echo(random, elements)
+}
+
+/// As many bearer contexts as a message holds.
+fn most_groups(random: &mut Random) -> Case {
+    let message = listings::message_of(66).expect("66 is listed");
+    let mut elements = Vec::new();
+    for _ in 0..(LONGEST_MESSAGE - 12) / 9 {
+        let inside = Run {
+            elements: vec![Element::plain(73, 0, good_value(random, 73, 0))],
+            remnant: Vec::new(),
+        };
+        elements.push(Element {
+            value: Value::Group(inside),
+            ..Element::plain(93, 0, Vec::new())
+        });
+    }
+    let body = Run {
+        elements,
+        remnant: Vec::new(),
+    };
+    Case {
+        kind: some_kind(random),
+        message: Draft { message, body }.octets(random),
+    }
+}

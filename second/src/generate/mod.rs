@@ -1,0 +1,78 @@
+//! A seeded generator of messages made from the listings, good and damaged,
+//! and of the buffers lent with them.
+
+mod compose;
+mod damage;
+mod draft;
+mod lend;
+mod limits;
+mod random;
+
+pub use lend::{hostile_tables, Ask, Lookup};
+pub use random::Random;
+
+use crate::listings::MESSAGES;
+use draft::Draft;
+
+/// A message and the kind it is given with.
+#[derive(Debug, Clone, PartialEq, Eq)]
+pub struct Case {
+    pub kind: u32,
+    pub message: Vec<u8>,
+}
+
+/// The same seed gives the same cases on every platform.
+#[derive(Debug, Clone)]
+pub struct Generator {
+    random: Random,
+}
+
+impl Generator {
+    pub fn new(seed: u64) -> Self {
+        Self {
+            random: Random::new(seed),
+        }
+    }
+
+    /// The ordinary mix: good and damaged messages, and some at the limits.
+    pub fn case(&mut self) -> Case {
+        match self.random.below(1000) {
+            0..=2 => self.at_limit(),
+            3..=599 => self.good(),
+            _ => self.damaged(),
+        }
+    }
+
+    /// A message that its kind accepts.
+    pub fn good(&mut self) -> Case {
+        let (kind, draft) = self.draft();
+        let message = draft.octets(&mut self.random);
+        Case { kind, message }
+    }
+
+    /// A good message with one fault or two.
+    pub fn damaged(&mut self) -> Case {
+        let (kind, draft) = self.draft();
+        damage::damage(&mut self.random, kind, draft)
+    }
+
+    /// A message at the limit of octets or of elements.
+    pub fn at_limit(&mut self) -> Case {
+        limits::at_limit(&mut self.random)
+    }
+
+    fn draft(&mut self) -> (u32, Draft) {
+        let kind = self.random.between(1, 3) as u32;
+        let message = self.random.pick(&MESSAGES);
+        (kind, compose::compose(&mut self.random, kind, message))
+    }
+}
+
+impl Iterator for Generator {
+    type Item = Case;
+
+    /// The next case of the ordinary mix; there is always one.
+    fn next(&mut self) -> Option<Case> {
+        Some(self.case())
+    }
+}

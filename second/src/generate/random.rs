@@ -1,0 +1,70 @@
+//! A small seeded source of numbers (SplitMix64), the same on every platform.
+
+#[derive(Debug, Clone)]
+pub struct Random {
+    state: u64,
+}
+
+impl Random {
+    pub fn new(seed: u64) -> Self {
+        Self { state: seed }
+    }
+
+    pub fn number(&mut self) -> u64 {
+        self.state = self.state.wrapping_add(0x9E37_79B9_7F4A_7C15);
+        let mut z = self.state;
+        z = (z ^ (z >> 30)).wrapping_mul(0xBF58_476D_1CE4_E5B9);
+        z = (z ^ (z >> 27)).wrapping_mul(0x94D0_49BB_1331_11EB);
+        z ^ (z >> 31)
+    }
+
+    /// A number from 0 up to but not including `bound`; 0 for a bound of 0.
+    pub fn below(&mut self, bound: usize) -> usize {
+        ((u128::from(self.number()) * bound as u128) >> 64) as usize
+    }
+
+    /// A number from `low` to `high`, both included.
+    pub fn between(&mut self, low: usize, high: usize) -> usize {
+        low + self.below(high - low + 1)
+    }
+
+    /// Yes in so many cases out of a hundred.
+    pub fn percent(&mut self, percent: usize) -> bool {
+        self.below(100) < percent
+    }
+
+    pub fn octet(&mut self) -> u8 {
+        self.number() as u8
+    }
+
+    pub fn octets(&mut self, length: usize) -> Vec<u8> {
+        let mut octets = vec![0; length];
+        for part in octets.chunks_mut(8) {
+            part.copy_from_slice(&self.number().to_le_bytes()[..part.len()]);
+        }
+        octets
+    }
+
+    pub fn pick<'a, T>(&mut self, of: &'a [T]) -> &'a T {
+        &of[self.below(of.len())]
+    }
+
+    /// One of several, each as often as its weight says.
+    pub fn weighted<T: Copy>(&mut self, of: &[(usize, T)]) -> T {
+        let whole = of.iter().map(|(weight, _)| weight).sum();
+        let mut at = self.below(whole);
+        for &(weight, one) in of {
+            if at < weight {
+                return one;
+            }
+            at -= weight;
+        }
+        unreachable!("the number drawn is below the sum of the weights")
+    }
+
+    pub fn shuffle<T>(&mut self, of: &mut [T]) {
+        for last in (1..of.len()).rev() {
+            of.swap(last, self.below(last + 1));
+        }
+    }
+}

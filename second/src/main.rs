@@ -1,0 +1,132 @@
+//! Command line of the second program; see the README for its commands.
+
+use std::fs;
+use std::io::{self, BufRead, BufWriter, Read, Write};
+use std::path::Path;
+use std::process::ExitCode;
+
+use second::generate::{Case, Generator};
+use second::types::{Cover, Least, TYPES};
+use second::{lines, listings, program};
+
+const USAGE: &str = "usage: second judge | mask | lookup | generate SEED COUNT [DIR] \
+                     | lookups SEED COUNT | listings | types";
+
+type Outcome = Result<ExitCode, Box<dyn std::error::Error>>;
+
+fn main() -> ExitCode {
+    let arguments = std::env::args().skip(1).collect::<Vec<_>>();
+    let arguments = arguments.iter().map(String::as_str).collect::<Vec<_>>();
+    let mut out = BufWriter::new(io::stdout().lock());
+    let outcome = run(&arguments, &mut out).and_then(|code| {
+        out.flush()?;
+        Ok(code)
+    });
+    outcome.unwrap_or_else(|error| {
+        eprintln!("second: {error}");
+        ExitCode::from(2)
+    })
+}
+
+fn run(arguments: &[&str], out: &mut impl Write) -> Outcome {
+    match *arguments {
+        ["judge"] => judge(out),
+        ["mask"] => mask(out),
+        ["lookup"] => lookup(out),
+        ["generate", seed, count] => generate(seed.parse()?, count.parse()?, None, out),
+        ["generate", seed, count, dir] => generate(seed.parse()?, count.parse()?, Some(dir), out),
+        ["lookups", seed, count] => lookups(seed.parse()?, count.parse()?, out),
+        ["listings"] => listings(out),
+        ["types"] => types(out),
+        _ => Err(USAGE.into()),
+    }
+}
+
+fn input() -> io::Result<Vec<u8>> {
+    let mut input = Vec::new();
+    io::stdin().lock().read_to_end(&mut input)?;
+    Ok(input)
+}
+
+fn judge(out: &mut impl Write) -> Outcome {
+    out.write_all(program(&input()?).as_bytes())?;
+    Ok(ExitCode::SUCCESS)
+}
+
+/// The masked copy goes out raw, a refusal to standard error.
+fn mask(out: &mut impl Write) -> Outcome {
+    match second::program::mask_program(&input()?) {
+        Ok(copy) => {
+            out.write_all(&copy)?;
+            Ok(ExitCode::SUCCESS)
+        }
+        Err(refusal) => {
+            eprint!("{refusal}");
+            Ok(ExitCode::FAILURE)
+        }
+    }
+}
+
+fn lookup(out: &mut impl Write) -> Outcome {
+    for line in io::stdin().lock().lines() {
+        let lookup = lines::lookup(&line?)?;
+        writeln!(out, "{}", lines::answer_line(&lookup))?;
+    }
+    Ok(ExitCode::SUCCESS)
+}
+
+fn generate(seed: u64, count: usize, dir: Option<&str>, out: &mut impl Write) -> Outcome {
+    if let Some(dir) = dir {
+        fs::create_dir_all(dir)?;
+    }
+    for (number, case) in Generator::new(seed).take(count).enumerate() {
+        writeln!(out, "{}", lines::case_line(&case))?;
+        if let Some(dir) = dir {
+            write_input(Path::new(dir), number, &case)?;
+        }
+    }
+    Ok(ExitCode::SUCCESS)
+}
+
+/// Writes a case as the judge program reads it. A kind over 255 has no such
+/// form, and its number is left out.
+fn write_input(dir: &Path, number: usize, case: &Case) -> io::Result<()> {
+    let Ok(kind) = u8::try_from(case.kind) else {
+        return Ok(());
+    };
+    let mut input = vec![kind];
+    input.extend(&case.message);
+    fs::write(dir.join(format!("{number:06}.in")), input)
+}
+
+fn lookups(seed: u64, count: usize, out: &mut impl Write) -> Outcome {
+    let mut generator = Generator::new(seed);
+    for _ in 0..count {
+        writeln!(out, "{}", lines::lookup_line(&generator.lookup()))?;
+    }
+    Ok(ExitCode::SUCCESS)
+}
+
+fn listings(out: &mut impl Write) -> Outcome {
+    for line in listings::lines() {
+        writeln!(out, "{line}")?;
+    }
+    Ok(ExitCode::SUCCESS)
+}
+
+fn types(out: &mut impl Write) -> Outcome {
+    for (typ, facts) in TYPES.iter().enumerate() {
+        let least = match facts.least {
+            Least::Fixed(least) => least.to_string(),
+            Least::PdnType | Least::AddressFlags => "first".into(),
+        };
+        let group = if facts.group { "group" } else { "-" };
+        let cover = match facts.cover {
+            Cover::Nothing => "-",
+            Cover::Rest => "rest",
+            Cover::Whole => "whole",
+        };
+        writeln!(out, "{typ} {least} {group} {cover}")?;
+    }
+    Ok(ExitCode::SUCCESS)
+}

@@ -1,0 +1,191 @@
+//! The demands over random messages.
+
+use crate::support::{judged, rows, UNTOUCHED};
+use second::generate::{Case, Generator, Random};
+use second::listings::{lines, Line};
+use second::walk::{walk, Standing};
+use second::{covered, judge, mask, Verdict};
+
+const CASES: usize = 60_000;
+
+/// Each row begins where the one before it at its level ended, the first where
+/// the level begins, and the last ends where the level ends.
+fn assert_rows_tile_their_levels(message: &[u8], rows: &[[u16; 6]]) {
+    let header = if message[0] & 8 == 0 { 8 } else { 12 };
+    let mut next = vec![header];
+    let mut ends = vec![message.len()];
+    let mut entered = vec![true];
+    for (number, &[parent, typ, _, place, length, standing]) in rows.iter().enumerate() {
+        let (place, parent) = (usize::from(place), usize::from(parent));
+        assert!(parent <= number, "a parent comes before its rows");
+        assert!(entered[parent], "only a kept group is a parent");
+        assert_eq!(place - 4, next[parent]);
+        next[parent] = place + usize::from(length);
+        assert!(next[parent] <= ends[parent]);
+        next.push(place);
+        ends.push(place + usize::from(length));
+        entered.push(standing == 0 && matches!(typ, 93 | 180));
+    }
+    for row in 0..next.len() {
+        assert!(!entered[row] || next[row] == ends[row]);
+    }
+}
+
+#[test]
+fn rows_lie_within_their_parents_and_siblings_never_overlap() {
+    let mut accepted = 0;
+    for case in Generator::new(11).take(CASES) {
+        let (verdict, table) = judged(case.kind, &case.message);
+        if verdict.accepted() {
+            accepted += 1;
+            assert_rows_tile_their_levels(&case.message, rows(&table));
+            let kept = rows(&table).iter().filter(|row| row[5] == 0).count();
+            assert_eq!(usize::from(table[1]), kept);
+            assert_eq!(table[2..4], [4, 4 + 6 * table[0]]);
+        }
+    }
+    assert!(accepted > CASES / 3);
+}
+
+/// The first mandatory pair without a kept row, looked for level by level.
+fn missing_by_hand(lines: &[Line], case: &Case) -> Option<Verdict> {
+    let rows = walk(case.kind, &case.message)
+        .expect("a whole message")
+        .rows;
+    let mut levels = vec![(0, 0, None)];
+    for (number, row) in rows.iter().enumerate() {
+        if row.standing == Standing::Kept && matches!(row.typ, 93 | 180) {
+            levels.push((number + 1, row.place - 4, Some((row.typ, row.inst))));
+        }
+    }
+    for (parent, place, group) in levels {
+        let listed = lines.iter().filter(|line| {
+            let level = line.level.map(|(typ, inst)| (typ, inst.number()));
+            line.message == case.message[1] && level == group && line.listed.mandatory
+        });
+        for line in listed {
+            let (typ, inst) = (line.listed.typ, line.listed.inst.number());
+            let kept = rows.iter().any(|row| {
+                usize::from(row.parent) == parent
+                    && row.standing == Standing::Kept
+                    && (row.typ, row.inst) == (typ, inst)
+            });
+            if !kept {
+                return Some(Verdict::missing(place, typ, inst));
+            }
+        }
+    }
+    None
+}
+
+#[test]
+fn missing_is_given_exactly_when_a_required_pair_has_no_kept_row() {
+    let lines = lines();
+    let mut missing = 0;
+    for case in Generator::new(12).take(CASES) {
+        let (verdict, _) = judged(case.kind, &case.message);
+        if verdict.code == 0 || verdict.code == 12 {
+            let expected = missing_by_hand(&lines, &case);
+            assert_eq!(verdict, expected.unwrap_or(Verdict::ACCEPTED));
+            missing += usize::from(verdict.code == 12);
+        }
+    }
+    assert!(missing > 1000);
+}
+
+/// The message with its covered octets drawn anew.
+fn other_covered(random: &mut Random, message: &[u8], covered: &[bool]) -> Vec<u8> {
+    let octets = message.iter().zip(covered);
+    octets
+        .map(|(&own, &covered)| if covered { random.octet() } else { own })
+        .collect()
+}
+
+fn judged_in(case: &Case, mut table: Vec<u16>) -> (Verdict, Vec<u16>) {
+    let verdict = judge(case.kind, &case.message, &mut table);
+    (verdict, table)
+}
+
+fn masked_in(case: &Case, mut copy: Vec<u8>) -> (Verdict, Vec<u8>) {
+    let verdict = mask(case.kind, &case.message, &mut copy);
+    (verdict, copy)
+}
+
+fn assert_copy_is_right(case: &Case, covered: &[bool], copy: &[u8]) {
+    let (copied, past) = copy.split_at(case.message.len());
+    for ((&own, &covered), &copied) in case.message.iter().zip(covered).zip(copied) {
+        assert_eq!(copied, if covered { 0 } else { own });
+    }
+    assert!(past.iter().all(|&octet| octet == 0xEE));
+}
+
+#[test]
+fn covered_octets_change_nothing() {
+    let mut generator = Generator::new(13);
+    let mut random = Random::new(14);
+    let mut pairs = 0;
+    for _ in 0..CASES {
+        let case = generator.case();
+        let covered = covered(case.kind, &case.message);
+        let other = Case {
+            kind: case.kind,
+            message: other_covered(&mut random, &case.message, &covered),
+        };
+        pairs += usize::from(other != case);
+        let table = vec![UNTOUCHED; generator.table_length(&case)];
+        let judged = judged_in(&case, table.clone());
+        assert_eq!(judged_in(&other, table.clone()), judged);
+
+        let lent = vec![0xEE; generator.copy_length(&case)];
+        let (verdict, copy) = masked_in(&case, lent.clone());
+        assert_eq!(masked_in(&other, lent), (verdict, copy.clone()));
+        if verdict.accepted() {
+            assert_copy_is_right(&case, &covered, &copy);
+            let copied = Case {
+                kind: case.kind,
+                message: copy[..case.message.len()].to_vec(),
+            };
+            assert_eq!(judged_in(&copied, table), judged);
+        } else {
+            assert!(copy.iter().all(|&octet| octet == 0xEE));
+        }
+    }
+    assert!(pairs > CASES / 4);
+}
+
+#[test]
+fn lent_tables_of_all_lengths() {
+    for case in Generator::new(15).take(CASES / 6) {
+        let need = case.table_need();
+        let (largest, used) = judged(case.kind, &case.message);
+        for length in case.table_lengths() {
+            let (verdict, table) = judged_in(&case, vec![UNTOUCHED; length]);
+            let passes_9 = walk(case.kind, &case.message).is_ok();
+            let expected = if passes_9 && length < need {
+                Verdict::SMALL_TABLE
+            } else {
+                largest
+            };
+            assert_eq!(verdict, expected);
+            let written = if verdict.accepted() { need } else { 0 };
+            assert_eq!(table[..written], used[..written]);
+            assert!(table[written..].iter().all(|&number| number == UNTOUCHED));
+        }
+    }
+}
+
+#[test]
+fn lent_copies_of_all_lengths() {
+    for case in Generator::new(16).take(CASES / 6) {
+        let framing = walk(case.kind, &case.message).err();
+        for length in case.copy_lengths() {
+            let (verdict, _) = masked_in(&case, vec![0; length]);
+            let expected = match framing {
+                Some(refusal) => refusal,
+                None if length < case.message.len() => Verdict::SMALL_COPY,
+                None => Verdict::ACCEPTED,
+            };
+            assert_eq!(verdict, expected);
+        }
+    }
+}

@@ -1,0 +1,154 @@
+//! The listings and the types against document 01's own sentences.
+
+use second::listings;
+use second::types::{least, of, Cover, Least, TYPES};
+
+/// Messages, level and the pairs as document 01 writes them.
+const SENTENCES: &[(&[u8], &str, &str)] = &[
+    (&[1, 2], "body", "3/0 M, 152/0"),
+    (
+        &[32],
+        "body",
+        "1/0 M, 76/0, 75/0, 86/0, 83/0, 82/0 M, 77/0 M, 87/0 M, 87/1, 71/0, 128/0, 99/0 M, \
+         79/0, 127/0 M, 72/0, 78/0, 93/0 M*, 93/1*, 96/0, 3/0, 132/0, 132/1",
+    ),
+    (
+        &[32],
+        "93/0",
+        "73/0 M, 84/0, 84/1, 87/0, 87/1, 87/2, 80/0 M, 95/0, 97/0",
+    ),
+    (&[32], "93/1", "73/0 M, 87/1"),
+    (&[37], "body", "2/0 M, 3/0, 78/0"),
+    (
+        &[66],
+        "body",
+        "93/0 M*, 86/0, 170/0, 114/0, 180/0, 180/1 (kind 3 only), 87/0 (kind 3 only), \
+         201/0* (kinds 1 and 3)",
+    ),
+    (&[66], "93/0", "73/0 M, 97/0, 172/0* (kinds 1 and 3)"),
+    (&[66], "180/0", "183/0 M, 182/0 M, 156/0 M"),
+    (&[66], "180/1", "183/0 M, 182/0 M, 156/0 M"),
+    (
+        &[67],
+        "body",
+        "2/0 M, 93/0 M*, 3/0, 77/0, 180/0*, 180/1 (kinds 1 and 2 only)",
+    ),
+    (&[67], "93/0", "73/0 M, 2/0 M"),
+    (&[67], "180/0", "183/0 M, 182/0 M, 156/0 M, 71/0*"),
+    (&[67], "180/1", "183/0 M, 182/0 M, 156/0 M"),
+    (&[68], "body", "73/0, 2/0, 100/0 M, 81/0, 85/0 M"),
+    (&[69], "body", "2/0 M, 73/0, 73/1, 100/0 M, 3/0"),
+    (
+        &[97],
+        "body",
+        "1/0 M, 93/0 M*, 100/0, 78/0, 72/0 M, 96/0, 132/2, 132/1",
+    ),
+    (&[97], "93/0", "73/0 M, 84/0, 84/1, 80/0, 95/0, 94/0"),
+];
+
+/// One pair of a sentence in canonical form, without message and level.
+fn canonical(pair: &str) -> String {
+    let (pair, kinds) = pair.split_once(" (").unwrap_or((pair, "kinds 1, 2 and 3"));
+    let kinds = kinds.chars().filter(char::is_ascii_digit);
+    let mandatory = if pair.contains('M') { 'M' } else { '-' };
+    let many = if pair.contains('*') { '*' } else { '-' };
+    let pair = pair.trim_end_matches(['M', '*', ' ']);
+    format!("{pair} {mandatory} {many} {}", kinds.collect::<String>())
+}
+
+fn sentences_of(message: u8) -> Vec<String> {
+    let mut lines = Vec::new();
+    for (messages, level, pairs) in SENTENCES {
+        if !messages.contains(&message) {
+            continue;
+        }
+        for pair in pairs.split(", ") {
+            lines.push(format!("{message} {level} {}", canonical(pair)));
+        }
+        if *level == "body" {
+            lines.push(format!("{message} body 255/any - * 123"));
+        }
+    }
+    lines
+}
+
+#[test]
+fn listings_are_those_of_the_document() {
+    let messages = [1, 2, 32, 37, 66, 67, 68, 69, 97];
+    let expected = messages.map(sentences_of).concat();
+    let lines = listings::lines().into_iter().map(|line| line.to_string());
+    assert_eq!(lines.collect::<Vec<_>>(), expected);
+}
+
+#[test]
+fn messages_1_and_2_alone_have_no_teid() {
+    for message in &listings::MESSAGES {
+        assert_eq!(message.teid, message.typ > 2);
+    }
+}
+
+#[test]
+fn only_groups_list_something_inside() {
+    for line in listings::lines() {
+        let group = of(line.listed.typ).group;
+        assert_eq!(group, !line.listed.inside.is_empty(), "{line}");
+    }
+}
+
+#[test]
+fn no_level_lists_a_pair_twice() {
+    let mut pairs = listings::lines()
+        .iter()
+        .map(|line| {
+            format!(
+                "{} {:?} {}/{}",
+                line.message, line.level, line.listed.typ, line.listed.inst
+            )
+        })
+        .collect::<Vec<_>>();
+    let all = pairs.len();
+    pairs.sort();
+    pairs.dedup();
+    assert_eq!(pairs.len(), all);
+}
+
+#[test]
+fn types_are_those_of_the_document() {
+    let least_lengths: [(u16, &[usize]); 7] = [
+        (0, &[93, 180]),
+        (2, &[2, 95, 114, 255]),
+        (3, &[83]),
+        (4, &[94, 170, 183]),
+        (8, &[72]),
+        (21, &[81]),
+        (22, &[80]),
+    ];
+    for (typ, facts) in TYPES.iter().enumerate() {
+        let named = least_lengths.iter().find(|(_, types)| types.contains(&typ));
+        let least = match typ {
+            79 => Least::PdnType,
+            87 => Least::AddressFlags,
+            _ => Least::Fixed(named.map_or(1, |&(least, _)| least)),
+        };
+        let cover = match typ {
+            1 | 75 | 76 | 78 | 86 | 255 => Cover::Whole,
+            79 => Cover::Rest,
+            _ => Cover::Nothing,
+        };
+        assert_eq!(facts.least, least, "{typ}");
+        assert_eq!(facts.group, typ == 93 || typ == 180, "{typ}");
+        assert_eq!(facts.cover, cover, "{typ}");
+    }
+}
+
+#[test]
+fn first_octet_sets_the_least_length_of_79_and_87() {
+    for first in 0..=255 {
+        let addresses = [5, 21, 9, 25][usize::from(first >> 6)];
+        assert_eq!(least(87, &[first]), addresses, "{first}");
+        let pdn = [1, 5, 18, 22, 1, 1, 1, 1][usize::from(first & 7)];
+        assert_eq!(least(79, &[first]), pdn, "{first}");
+    }
+    assert!(least(79, &[]) > 0);
+    assert!(least(87, &[]) > 0);
+}

@@ -1,0 +1,13 @@
+//! Tests of the second program, one module for each part of document 01.
+
+mod coverage;
+mod demands;
+mod examples;
+mod generator;
+mod listings;
+mod lookups;
+mod octets;
+mod program;
+mod readings;
+mod samples;
+mod support;

@@ -1,0 +1,188 @@
+//! The judge program, and the command line around it.
+
+use std::fs;
+use std::io::Write;
+use std::process::{Command, Output, Stdio};
+
+use crate::support::{message, octets};
+use second::generate::{Ask, Generator, Lookup};
+use second::{lines, mask, program};
+
+const G: &str = "48 42 00 11 00 00 00 01 00 00 02 00 5D 00 05 00 49 00 01 00 05";
+const G_ACCEPTED: &str = "accept 2 2\n0 93 0 16 5 0\n1 73 0 20 1 0\n";
+
+fn input(kind: u8, message: &[u8]) -> Vec<u8> {
+    [&[kind], message].concat()
+}
+
+#[test]
+fn no_input_reads_as_kind_0() {
+    assert_eq!(program(&[]), "refuse 1 0 0 0 0\n");
+}
+
+#[test]
+fn one_octet_is_a_kind_with_an_empty_message() {
+    assert_eq!(program(&[0]), "refuse 1 0 0 0 0\n");
+    assert_eq!(program(&[1]), "refuse 2 0 0 0 0\n");
+    assert_eq!(program(&[255]), "refuse 1 0 0 0 0\n");
+}
+
+#[test]
+fn refusals_are_one_line() {
+    let cut = &octets(G)[..20];
+    assert_eq!(program(&input(1, cut)), "refuse 6 67 0 0 0\n");
+    let empty = message(66, "5D 00 00 00");
+    assert_eq!(program(&input(2, &empty)), "refuse 12 70 12 73 0\n");
+}
+
+#[test]
+fn the_first_4097_octets_count() {
+    let mut longest = message(1, "03 00 01 00 07 FF 0F EF 00");
+    longest.resize(4096, 0x55);
+    longest[2..4].copy_from_slice(&[0x0F, 0xFC]);
+    let accepted = "accept 2 2\n0 3 0 12 1 0\n0 255 0 17 4079 0\n";
+    assert_eq!(program(&input(1, &longest)), accepted);
+    for length in [4097, 4098, 70_000] {
+        longest.resize(length, 0);
+        assert_eq!(program(&input(1, &longest)), "refuse 2 0 0 0 0\n");
+    }
+}
+
+#[test]
+fn the_table_has_room_for_1022_rows() {
+    let mut body = octets("03 00 04 00 00 00 00 00");
+    body.extend(octets("C8 00 00 00").repeat(1020));
+    let text = program(&input(1, &message(1, &lines::hex(&body))));
+    assert!(text.starts_with("accept 1021 1\n0 3 0 12 4 0\n0 200 0 20 0 1\n"));
+    assert_eq!(text.lines().count(), 1022);
+    let all_empty = octets("03 00 00 00").repeat(1022);
+    let message = message(1, &lines::hex(&all_empty));
+    assert_eq!(message.len(), 4096);
+    assert_eq!(program(&input(1, &message)), "refuse 11 67 8 3 0\n");
+}
+
+fn second(arguments: &[&str], input: &[u8]) -> Output {
+    let mut child = Command::new(env!("CARGO_BIN_EXE_second"))
+        .args(arguments)
+        .stdin(Stdio::piped())
+        .stdout(Stdio::piped())
+        .stderr(Stdio::piped())
+        .spawn()
+        .expect("the program starts");
+    let mut stdin = child.stdin.take().expect("its input is piped");
+    // A command without input may be gone already.
+    let _ = stdin.write_all(input);
+    drop(stdin);
+    child.wait_with_output().expect("the program ends")
+}
+
+fn printed(output: Output) -> String {
+    assert!(output.status.success());
+    String::from_utf8(output.stdout).expect("text")
+}
+
+#[test]
+fn judge_command() {
+    assert_eq!(
+        printed(second(&["judge"], &input(1, &octets(G)))),
+        G_ACCEPTED
+    );
+    assert_eq!(printed(second(&["judge"], &[])), "refuse 1 0 0 0 0\n");
+}
+
+#[test]
+fn mask_command() {
+    let message = message(1, "03 00 01 00 07 C8 00 02 00 11 22");
+    let mut copy = vec![0; message.len()];
+    mask(1, &message, &mut copy);
+    let output = second(&["mask"], &input(1, &message));
+    assert!(output.status.success());
+    assert_eq!(output.stdout, copy);
+
+    let output = second(&["mask"], &input(4, &message));
+    assert_eq!(output.status.code(), Some(1));
+    assert!(output.stdout.is_empty());
+    assert_eq!(output.stderr, b"refuse 1 0 0 0 0\n");
+}
+
+#[test]
+fn lookup_command() {
+    let g = G.replace(' ', "");
+    let table = "2,2,4,16,0,93,0,16,5,0,1,73,0,20,1,0";
+    let lines = [
+        format!("desk 1 1 {g} {g} {table}"),
+        format!("desk 2 1 {g} {g} {table}"),
+        format!("desk 1 0 {g} - {table}"),
+        format!("plain 93 0 {g} {table}"),
+        format!("plain 73 0 {g} {table}"),
+        format!("plain 73 0 {g} 1,1,4,10,0,73,0,21,0,0"),
+        "plain 3 0 - -".into(),
+        "desk 0 0 - - 0,0,4,4".into(),
+    ];
+    let output = second(&["lookup"], lines.join("\n").as_bytes());
+    let expected = "1 05\n0 \n0 \n1 4900010005\n0 \n1 \n0 \n0 \n";
+    assert_eq!(printed(output), expected);
+    assert_eq!(second(&["lookup"], b"plain 3 0").status.code(), Some(2));
+}
+
+#[test]
+fn lookup_lines_are_read_as_written() {
+    let mut generator = Generator::new(41);
+    for _ in 0..2000 {
+        let lookup = generator.lookup();
+        let read = lines::lookup(&lines::lookup_line(&lookup)).expect("a line");
+        let copy = match lookup.ask {
+            Ask::Plain { .. } => Vec::new(),
+            Ask::Desk { .. } => lookup.copy.clone(),
+        };
+        assert_eq!(read, Lookup { copy, ..lookup });
+    }
+}
+
+#[test]
+fn generate_command() {
+    let cases = Generator::new(5).take(300);
+    let expected = cases.map(|case| lines::case_line(&case) + "\n");
+    let output = printed(second(&["generate", "5", "300"], &[]));
+    assert_eq!(output, expected.collect::<String>());
+}
+
+#[test]
+fn generate_command_with_a_folder() {
+    let folder = concat!(env!("CARGO_TARGET_TMPDIR"), "/generated");
+    printed(second(&["generate", "5", "300", folder], &[]));
+    for (number, case) in Generator::new(5).take(300).enumerate() {
+        let file = fs::read(format!("{folder}/{number:06}.in")).ok();
+        let kind = u8::try_from(case.kind).ok();
+        assert_eq!(file, kind.map(|kind| input(kind, &case.message)));
+    }
+    fs::remove_dir_all(folder).expect("the folder was made");
+}
+
+#[test]
+fn listings_and_types_commands() {
+    let listings = printed(second(&["listings"], &[]));
+    assert!(
+        listings.starts_with("1 body 3/0 M - 123\n1 body 152/0 - - 123\n1 body 255/any - * 123\n")
+    );
+    assert!(listings.contains("\n66 body 180/1 - - 3\n"));
+    assert!(listings.contains("\n67 180/0 71/0 - * 123\n"));
+    let types = printed(second(&["types"], &[]));
+    assert_eq!(types.lines().count(), 256);
+    for line in [
+        "0 1 - -",
+        "1 1 - whole",
+        "79 first - rest",
+        "93 0 group -",
+        "255 2 - whole",
+    ] {
+        assert!(types.lines().any(|other| other == line), "{line}");
+    }
+}
+
+#[test]
+fn other_commands_are_errors() {
+    for arguments in [&[][..], &["what"], &["generate", "x", "1"], &["judge", "1"]] {
+        assert_eq!(second(arguments, &[]).status.code(), Some(2));
+    }
+}

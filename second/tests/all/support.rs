@@ -1,0 +1,70 @@
+//! What several tests share.
+
+use second::table::{used, HEADER, MOST_ROWS, PER_ROW};
+use second::{judge, lines, Verdict};
+
+/// A number that no table of a short message holds.
+pub const UNTOUCHED: u16 = 0xAAAA;
+
+pub fn octets(hex: &str) -> Vec<u8> {
+    lines::octets(hex).expect("hex in a test")
+}
+
+pub fn verdict(numbers: [u16; 5]) -> Verdict {
+    let [code, cause, place, typ, inst] = numbers;
+    Verdict {
+        code,
+        cause,
+        place,
+        typ,
+        inst,
+    }
+}
+
+/// The verdict and the table's used numbers, judged with the largest table.
+/// A refusal must leave the table as it was.
+pub fn judged(kind: u32, message: &[u8]) -> (Verdict, Vec<u16>) {
+    let mut table = vec![UNTOUCHED; used(MOST_ROWS)];
+    let verdict = judge(kind, message, &mut table);
+    let written = if verdict.accepted() {
+        usize::from(table[3])
+    } else {
+        0
+    };
+    assert!(table[written..].iter().all(|&number| number == UNTOUCHED));
+    table.truncate(written);
+    (verdict, table)
+}
+
+/// The five numbers with the largest table.
+pub fn five(kind: u32, message: &[u8]) -> [u16; 5] {
+    judged(kind, message).0.numbers()
+}
+
+/// The table of an accepted message.
+pub fn table(kind: u32, message: &[u8]) -> Vec<u16> {
+    let (verdict, table) = judged(kind, message);
+    assert_eq!(verdict, Verdict::ACCEPTED);
+    table
+}
+
+/// The rows of a table of the judge.
+pub fn rows(table: &[u16]) -> &[[u16; PER_ROW]] {
+    let (rows, rest) = table[HEADER..].as_chunks();
+    assert!(rest.is_empty());
+    rows
+}
+
+/// A message of that type from the hex of its body, header and lengths right.
+pub fn message(typ: u8, body: &str) -> Vec<u8> {
+    let mut message = if matches!(typ, 1 | 2) {
+        octets("40 00 00 00 00 00 01 00")
+    } else {
+        octets("48 00 00 00 00 00 00 01 00 00 02 00")
+    };
+    message.extend(octets(body));
+    message[1] = typ;
+    let length = u16::try_from(message.len() - 4).expect("a short message");
+    message[2..4].copy_from_slice(&length.to_be_bytes());
+    message
+}
