@@ -5,6 +5,7 @@ pub mod Checks
 pub mod Lines
 pub mod Standings
 pub mod Rows
+pub mod Places
 pub mod Header
 pub mod Repeats
 pub mod Covers

@@ -12,7 +12,7 @@ use lib.Dec.{eqb, ltb, leb}
 use lib.ListN.{length, getD}
 use Rattle.rules.specs.Types.{among, isGroup}
 use Rattle.rules.specs.Listings.{Line, Message, Book, anyInstance, lists, seek, noLine, listing}
-use Rattle.rules.specs.Standing.{marksOf}
+use Rattle.rules.specs.Standing.{mostLines}
 use Rattle.rules.specs.Sound.{all, everyLine, lineTests, clash, distinct, levelTests, everyLevel, everyMessage, sound}
 
 -- ---- tests with two parts
@@ -177,7 +177,7 @@ module _ (b : Book) (fine : sound b ≡ true) (v : ℕ) where
   pub level-distinct : distinct (listing b v) ≡ true
   level-distinct = level-each .1 .0
 
-  pub level-size : length (listing b v) ≤ marksOf
+  pub level-size : length (listing b v) ≤ mostLines
   level-size = leb-true _ _ (level-each .1 .1 .0)
 
   pub line-sound : (j : ℕ) → j < length (listing b v) → all (lineTests (length (b .levels)) (getD (listing b v) j noLine)) ≡ true
@@ -190,6 +190,7 @@ pub record SoundLine (levels : ℕ) (l : Line) : Type 0 where
   pub typ : l .typ < 256
   pub inst : l .inst ≤ anyInstance
   pub must : not (l .must) || ltb (l .inst) anyInstance ≡ true
+  pub every : ltb (l .inst) anyInstance || l .many ≡ true
 
 pub sound-line : (levels : ℕ) (l : Line) → all (lineTests levels l) ≡ true → SoundLine levels l
 sound-line levels l e =
@@ -199,4 +200,5 @@ sound-line levels l e =
       typ = ltb-true _ _ (t .1 .1 .0);
       inst = leb-true _ _ (t .1 .1 .1 .0);
       must = t .1 .1 .1 .1 .0;
+      every = t .1 .1 .1 .1 .1 .0;
     }

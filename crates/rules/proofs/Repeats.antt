@@ -9,7 +9,7 @@ use borrow.Author.Tests.{lt-ltb, ne-eqb}
 use lib.Dec.{eqb, ltb}
 use lib.ListN.{length, getD}
 use Rattle.rules.specs.Listings.{Book, Line, noLine, seek, listing}
-use Rattle.rules.specs.Standing.{Item, repeated, marksOf, lineNumber, lineIn, isListed, stoodEarlier, standing, marked, itemOf}
+use Rattle.rules.specs.Standing.{Item, repeated, mostLines, lineNumber, lineIn, isListed, stoodEarlier, standing, marked, itemOf}
 use Rattle.rules.specs.Met.{Met, ends, alone, group}
 use Rattle.rules.specs.Sound.{sound}
 use Rattle.rules.specs.declared.Head.{Head}
@@ -76,13 +76,13 @@ module _ (b : Book) (fine : sound b ≡ true) (k v p t j : ℕ) (listed : seek (
         (all-repeats d (omega arith) (marks-stay b k v m h (seek (listing b v) k t j) s)),
   )
 
-  mark-own : (m : List ℕ) (at : ℕ) (h : Head) → length m ≡ marksOf → Of p t j (itemOf b k v m p at h) → mark (marked b k v m h) ≢ 0
+  mark-own : (m : List ℕ) (at : ℕ) (h : Head) → length m ≡ mostLines → Of p t j (itemOf b k v m p at h) → mark (marked b k v m h) ≢ 0
   unfolding itemOf
   mark-own m at h len o =
       let n : lineNumber b k v h ≡ seek (listing b v) k t j = rw (o .typ, o .inst) in
       rw (← n) (own-mark b k v m h (rw n (lt-ltb _ _ listed)) (rw n (omega (arith, level-size b fine v))))
 
-  later : {m : List ℕ} {n at : ℕ} {xs : List ℕ} {es : List Item} → Met b k v m p n at xs es → p ≤ n → length m ≡ marksOf → Later p t j es
+  later : {m : List ℕ} {n at : ℕ} {xs : List ℕ} {es : List Item} → Met b k v m p n at xs es → p ≤ n → length m ≡ mostLines → Later p t j es
   unfolding Later
   later ends l len = tt
   later (alone {m = m} {at = at} h a e d) l len =
@@ -102,7 +102,7 @@ later-at p t j (i ∷ es) a zero (suc y) l c o q = every-at (Repeat p t j) es (a
 later-at p t j (i ∷ es) a (suc x) (suc y) l c o q = later-at p t j es (a .1) x y (omega arith) (omega arith) o q
 
 -- row y is a repeat if row x before it, at the same level, has the same pair
-pub second-repeats : (b : Book) → sound b ≡ true → (k v : ℕ) {m : List ℕ} {p n at : ℕ} {xs : List ℕ} {es : List Item} → Met b k v m p n at xs es → p ≤ n → length m ≡ marksOf
+pub second-repeats : (b : Book) → sound b ≡ true → (k v : ℕ) {m : List ℕ} {p n at : ℕ} {xs : List ℕ} {es : List Item} → Met b k v m p n at xs es → p ≤ n → length m ≡ mostLines
     → (t j : ℕ) → seek (listing b v) k t j < length (listing b v) → getD (listing b v) (seek (listing b v) k t j) noLine .many ≡ false
     → (x y : ℕ) → x < y → y < length es → Of p t j (nth es x) → Of p t j (nth es y) → nth es y .stand ≡ repeated
 second-repeats b fine k v {m} {p} {n} {at} {xs} {es} d l len t j listed once x y lt c o q =

@@ -14,7 +14,7 @@ use lib.Dec.{eqb, ltb}
 use lib.ListN.{length, getD, set, length-set}
 use lib.Seq.{getD-set-same, getD-set-other, set-out}
 use Rattle.rules.specs.Listings.{Book, Line, listing}
-use Rattle.rules.specs.Standing.{kept, unexpected, repeated, short, marksOf, lineNumber, lineIn, isListed, stoodEarlier, isShort, standing, markAfter, marked, entered}
+use Rattle.rules.specs.Standing.{kept, unexpected, repeated, short, mostLines, lineNumber, lineIn, isListed, stoodEarlier, isShort, standing, markAfter, marked, entered}
 use Rattle.rules.specs.declared.Head.{Head}
 
 some-mark : (a c : Bool) → _≢_ {A = ℕ} (cond (a || c) 2 1) 0

@@ -71,8 +71,8 @@ abbrev pub Desk : ℕ → Bool → RefT (List ℕ) → RefT (List ℕ) → List 
 Desk row right message copy table part =
     Stands (cond right message copy) (deskSpan row (length (now message)) (length (now copy)) table) part
 
-abbrev pub DeskFound : ℕ → List ℕ → List ℕ → List ℕ → Bool → Type 0
-DeskFound row message copy table answer = answer ≡ deskSpan row (length message) (length copy) table .there
+abbrev pub DeskFound : ℕ → Bool → List ℕ → List ℕ → List ℕ → Bool → Type 0
+DeskFound row right message copy table answer = answer ≡ deskSpan row (length message) (length copy) table .there
 
 -- ---- the exports to C: the code is the result
 

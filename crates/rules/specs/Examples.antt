@@ -25,16 +25,16 @@ pub record Outcome : Type 0 where
   pub verdict : Verdict
   pub left : List ℕ
 
--- a table of zeros with room for three rows and one number more
-abbrev pub zeros : List ℕ
-zeros = replicate 23 0
+-- a table of sevens with room for three rows and one number more
+abbrev pub sevens : List ℕ
+sevens = replicate 23 7
 
 abbrev pub judge : ℕ → ℕ → List ℕ → Verdict → List ℕ → Example
 judge x k m v numbers =
-    record { letter = x; call = judging; kind = k; message = m; lent = zeros; verdict = v; left = numbers ++ drop (length numbers) zeros }
+    record { letter = x; call = judging; kind = k; message = m; lent = sevens; verdict = v; left = numbers ++ drop (length numbers) sevens }
 
 abbrev pub mask : ℕ → ℕ → List ℕ → Verdict → List ℕ → Example
-mask x k m v copy = record { letter = x; call = masking; kind = k; message = m; lent = zeros; verdict = v; left = copy ++ drop (length copy) zeros }
+mask x k m v copy = record { letter = x; call = masking; kind = k; message = m; lent = sevens; verdict = v; left = copy ++ drop (length copy) sevens }
 
 -- ---- the messages
 

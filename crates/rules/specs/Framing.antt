@@ -6,7 +6,7 @@ use lib.ListN.{length, getD}
 use lib.Dec.{leb, eqb}
 use Rattle.rules.specs.declared.Head.{Head}
 
--- Octets count from 0, high octet first.
+-- Octets count from 0, high octet first. Past the end stands 0, and no answer hangs on that.
 abbrev pub octet : List ℕ → ℕ → ℕ
 octet xs k = getD xs k 0
 

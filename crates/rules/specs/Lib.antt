@@ -3,7 +3,6 @@ pub mod Framing
 pub mod Types
 pub mod Listings
 pub mod Standing
-pub mod Sound
 pub mod Taking
 pub mod Met
 pub mod Table
@@ -13,3 +12,4 @@ pub mod Values
 pub mod Octets
 pub mod Answers
 pub mod Examples
+pub mod Sound

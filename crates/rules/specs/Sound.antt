@@ -6,7 +6,7 @@ use lib.Dec.{eqb, ltb, leb}
 use lib.ListN.{length}
 use Rattle.rules.specs.Types.{isGroup}
 use Rattle.rules.specs.Listings.{Line, Message, Book, anyInstance}
-use Rattle.rules.specs.Standing.{marksOf}
+use Rattle.rules.specs.Standing.{mostLines}
 
 abbrev pub all : List Bool → Bool
 all [] = true
@@ -16,7 +16,8 @@ unfoldable pub everyLine : (Line → Bool) → List Line → Bool
 everyLine test [] = true
 everyLine test (l ∷ ls) = test l && everyLine test ls
 
--- a line has an inside exactly where its type is a group, at a level that there is; its type is an octet; and a pair that is mandatory has one instance, of four bits
+-- a line has an inside exactly where its type is a group, at a level that there is; its type is an octet; a pair that is mandatory has one instance, of four bits;
+-- and a line for every instance may repeat, since a mark is a line's and not an instance's
 abbrev pub lineTests : ℕ → Line → List Bool
 lineTests levels l =
     Bool·beq (isGroup (l .typ)) (not (eqb (l .inside) 0))
@@ -24,6 +25,7 @@ lineTests levels l =
     ∷ ltb (l .typ) 256
     ∷ leb (l .inst) anyInstance
     ∷ (not (l .must) || ltb (l .inst) anyInstance)
+    ∷ (ltb (l .inst) anyInstance || l .many)
     ∷ []
 
 -- two lines list one pair
@@ -37,7 +39,7 @@ distinct (l ∷ ls) = everyLine (λ l′. not (clash l l′)) ls && distinct ls
 
 -- each line passes, no pair is listed twice, and there is a mark for each line
 abbrev pub levelTests : ℕ → List Line → List Bool
-levelTests levels ls = everyLine (λ l. all (lineTests levels l)) ls ∷ distinct ls ∷ leb (length ls) marksOf ∷ []
+levelTests levels ls = everyLine (λ l. all (lineTests levels l)) ls ∷ distinct ls ∷ leb (length ls) mostLines ∷ []
 
 unfoldable pub everyLevel : ℕ → List (List Line) → Bool
 everyLevel levels [] = true

@@ -21,13 +21,14 @@ repeated = 2
 abbrev pub short : ℕ
 short = 3
 
--- A level keeps a mark for each line of its listing: 0, the pair has not stood there yet; 1, it has; 2, it has and one was kept.
-abbrev pub marksOf : ℕ
-marksOf = 32
+-- A level keeps a mark for each line of its listing: 0, the pair has not stood there yet; 1, it has; 2, it has and one was kept. The standing asks
+-- only whether a mark is 0; the 2 is for whoever asks at the level's end what was kept. A listing has at most as many lines as there are marks.
+abbrev pub mostLines : ℕ
+mostLines = 32
 
 -- a level begins with no pair seen
 abbrev pub fresh : List ℕ
-fresh = replicate marksOf 0
+fresh = replicate mostLines 0
 
 -- a mark after an element of its pair
 unfoldable pub markAfter : ℕ → ℕ → ℕ

@@ -15,26 +15,26 @@ unfoldable pub tableRows : List ℕ → ℕ
 tableRows t = cond (ltb (length t) headerNumbers || ltb (length t) (used (getD t 0 0))) 0 (getD t 0 0)
 
 -- number j of a row; rows are read from number 4 on
-abbrev pub rowNumber : List ℕ → ℕ → ℕ → ℕ
-rowNumber t r j = getD t (used r + j) 0
+abbrev pub cell : List ℕ → ℕ → ℕ → ℕ
+cell t r j = getD t (used r + j) 0
 
 abbrev pub rowParent : List ℕ → ℕ → ℕ
-rowParent t r = rowNumber t r 0
+rowParent t r = cell t r 0
 
 abbrev pub rowType : List ℕ → ℕ → ℕ
-rowType t r = rowNumber t r 1
+rowType t r = cell t r 1
 
 abbrev pub rowInstance : List ℕ → ℕ → ℕ
-rowInstance t r = rowNumber t r 2
+rowInstance t r = cell t r 2
 
 abbrev pub rowPlace : List ℕ → ℕ → ℕ
-rowPlace t r = rowNumber t r 3
+rowPlace t r = cell t r 3
 
 abbrev pub rowLength : List ℕ → ℕ → ℕ
-rowLength t r = rowNumber t r 4
+rowLength t r = cell t r 4
 
 abbrev pub rowStanding : List ℕ → ℕ → ℕ
-rowStanding t r = rowNumber t r 5
+rowStanding t r = cell t r 5
 
 abbrev pub nowhere : Span
 nowhere = record { start = 0; len = 0; there = false }

@@ -131,12 +131,14 @@ module _ (b : Book) (k : ℕ) (m : List ℕ) where
   abbrev pub copyCheck : ℕ → Verdict
   copyCheck room = check (ltb room (length m)) (refused 13 0)
 
-  -- what the judge checks, with a table of so many numbers
-  unfoldable pub judgeChecks : ℕ → List Verdict
-  judgeChecks room =
-      framingChecks ++ (roomCheck room ∷ shortVerdict items ∷ lackVerdict b k (bodyLevel b m) items ∷ [])
+  -- what the judge checks, with a table of so many numbers: 10, 11, 12 after framing
+  abbrev pub tableChecks : ℕ → List Verdict
+  tableChecks room = roomCheck room ∷ shortVerdict items ∷ lackVerdict b k (bodyLevel b m) items ∷ []
 
-  -- what the masker checks, with a copy buffer of so many octets
+  unfoldable pub judgeChecks : ℕ → List Verdict
+  judgeChecks room = framingChecks ++ tableChecks room
+
+  -- what the masker checks, with a copy buffer of so many octets: 13 after framing
   unfoldable pub maskChecks : ℕ → List Verdict
   maskChecks room = framingChecks ++ (copyCheck room ∷ [])
 

@@ -70,7 +70,7 @@ impl Generator {
     /// A lookup over some message with its own table, a spoiled one or a
     /// hostile one.
     pub fn lookup(&mut self) -> Lookup {
-        let Case { kind, message } = self.accepted();
+        let Case { kind, message } = self.good();
         let random = &mut self.random;
         let mut table = vec![0; table::used(MOST_ROWS)];
         judge(kind, &message, &mut table);
@@ -91,16 +91,6 @@ impl Generator {
             message,
             copy,
             table,
-        }
-    }
-
-    fn accepted(&mut self) -> Case {
-        loop {
-            let case = self.good();
-            let mut table = vec![0; table::used(MOST_ROWS)];
-            if judge(case.kind, &case.message, &mut table).accepted() {
-                return case;
-            }
         }
     }
 }

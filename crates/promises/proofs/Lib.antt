@@ -1,0 +1,11 @@
+pub mod Places
+pub mod Levels
+pub mod Rowed
+pub mod Searches
+pub mod Missing
+pub mod Messages
+pub mod Cases
+pub mod Trees
+pub mod Left
+pub mod Unique
+pub mod StandIns

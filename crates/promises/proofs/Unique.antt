@@ -1,0 +1,52 @@
+-- Two results, with what they leave, that a contract allows for one input are equal: each contract says what they equal. Assumes nothing.
+use mathlib.Core.Path.{_≡_, sym, _∙_}
+use mathlib.Core.Bool.{Bool}
+use mathlib.Core.List.{List}
+use Prim.Native.Nat.{ℕ}
+use denote.Ref.{RefT, now, ptr}
+use Rattle.rules.specs.Values.{Stands}
+use Rattle.rules.specs.Answers.{Read, Judged, Masked, Plain, PlainFound, Desk, DeskFound, JudgedOctets, MaskedOctets}
+use Rattle.rules.specs.declared.Verdict.{Verdict}
+use Rattle.rules.specs.declared.Reading.{Reading}
+use Rattle.rules.specs.declared.Span.{Span}
+
+both : {A : Type 0} {x y z : A} → y ≡ x → z ≡ x → y ≡ z
+both e f = e ∙ sym f
+
+pub read-unique : (k : ℕ) (m rows : List ℕ) (r r′ : Reading) (l l′ : List ℕ) → Read k m rows r l → Read k m rows r′ l′ → (r ≡ r′) × (l ≡ l′)
+read-unique k m rows r r′ l l′ x y = (both (x .answers) (y .answers), both (x .rows-left) (y .rows-left))
+
+pub judged-unique : (k : ℕ) (m t : List ℕ) (r r′ : Verdict) (l l′ : List ℕ) → Judged k m t r l → Judged k m t r′ l′ → (r ≡ r′) × (l ≡ l′)
+judged-unique k m t r r′ l l′ x y = (both (x .answers) (y .answers), both (x .table-left) (y .table-left))
+
+pub masked-unique : (k : ℕ) (m c : List ℕ) (r r′ : Verdict) (l l′ : List ℕ) → Masked k m c r l → Masked k m c r′ l′ → (r ≡ r′) × (l ≡ l′)
+masked-unique k m c r r′ l l′ x y = (both (x .answers) (y .answers), both (x .copy-left) (y .copy-left))
+
+-- equal octets, and equal places: the block and the offset in it
+pub record SamePart (r r′ : RefT (List ℕ)) : Type 0 where
+  pub octets : now r ≡ now r′
+  pub block : ptr r .0 ≡ ptr r′ .0
+  pub place : ptr r .1 ≡ ptr r′ .1
+
+stands-unique : (buffer : RefT (List ℕ)) (s : Span) (r r′ : RefT (List ℕ)) → Stands buffer s r → Stands buffer s r′ → SamePart r r′
+stands-unique buffer s r r′ x y = record { octets = both (x .octets) (y .octets); block = both (x .block) (y .block); place = both (x .place) (y .place) }
+
+pub plain-unique : (t i : ℕ) (m : RefT (List ℕ)) (table : List ℕ) (r r′ : RefT (List ℕ)) → Plain t i m table r → Plain t i m table r′ → SamePart r r′
+plain-unique t i m table r r′ x y = stands-unique m _ r r′ x y
+
+pub desk-unique : (row : ℕ) (right : Bool) (m c : RefT (List ℕ)) (table : List ℕ) (r r′ : RefT (List ℕ)) → Desk row right m c table r → Desk row right m c table r′ → SamePart r r′
+desk-unique row right m c table r r′ x y = stands-unique _ _ r r′ x y
+
+pub plain-found-unique : (t i : ℕ) (m table : List ℕ) (r r′ : Bool) → PlainFound t i m table r → PlainFound t i m table r′ → r ≡ r′
+plain-found-unique t i m table r r′ x y = both x y
+
+pub desk-found-unique : (row : ℕ) (right : Bool) (m c table : List ℕ) (r r′ : Bool) → DeskFound row right m c table r → DeskFound row right m c table r′ → r ≡ r′
+desk-found-unique row right m c table r r′ x y = both x y
+
+pub judged-octets-unique : (k : ℕ) (m t five : List ℕ) (r r′ : ℕ) (l l′ f f′ : List ℕ) → JudgedOctets k m t five r l f → JudgedOctets k m t five r′ l′ f′
+    → (r ≡ r′) × (l ≡ l′) × (f ≡ f′)
+judged-octets-unique k m t five r r′ l l′ f f′ x y = (both (x .answers) (y .answers), both (x .table-left) (y .table-left), both (x .five-left) (y .five-left))
+
+pub masked-octets-unique : (k : ℕ) (m c five : List ℕ) (r r′ : ℕ) (l l′ f f′ : List ℕ) → MaskedOctets k m c five r l f → MaskedOctets k m c five r′ l′ f′
+    → (r ≡ r′) × (l ≡ l′) × (f ≡ f′)
+masked-octets-unique k m c five r r′ l l′ f f′ x y = (both (x .answers) (y .answers), both (x .copy-left) (y .copy-left), both (x .five-left) (y .five-left))

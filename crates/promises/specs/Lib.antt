@@ -1,0 +1,4 @@
+pub mod Places
+pub mod Missing
+pub mod Conditions
+pub mod StandIns

@@ -1,0 +1,1 @@
+// What the owner is promised, as theorems about the rules: no function.
