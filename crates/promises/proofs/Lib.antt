@@ -7,5 +7,10 @@ pub mod Messages
 pub mod Cases
 pub mod Trees
 pub mod Left
+pub mod Covering
+pub mod Clearing
+pub mod Agreeing
+pub mod Copies
 pub mod Unique
 pub mod StandIns
+pub mod Main

@@ -1,0 +1,201 @@
+-- Covered octets lie in values, never in a header: an element that is not entered covers its own value at most, and a kept group covers nothing for
+-- its own sake, so the headers inside it stay open. Assumes nothing.
+--     before, beyond      in a run nothing is covered before the end of the first header, nor past the run's end
+--     sits, rows-sit      each row lies in its run, has a standing of document 01, and its header is open
+--     open-refused, covered-rows                  what is covered of a message that checks 1 to 9 refuse, and of one that they pass
+--     header-open, past-open, row-header-open     no octet is covered of the message's header, past its end, or of the header of an element taken
+use mathlib.Core.Path.{_≡_, refl, sym, _∙_}
+use mathlib.Core.Bool.{Bool, true, false, _||_, and-false, or-assoc}
+use mathlib.Core.List.{List, [], _∷_, _++_}
+use Prim.Native.Nat.{ℕ, _+_, _≤_, _<_}
+use native.Mathlib.Omega.{arith}
+use borrow.Author.Tests.{lt-leb, le-ltb, eq-eqb}
+use lib.Dec.{leb}
+use lib.ListN.{length, take, drop, length-drop}
+use Rattle.rules.specs.Framing.{elementHeader, headerLength}
+use Rattle.rules.specs.Types.{coversRest}
+use Rattle.rules.specs.Listings.{Book}
+use Rattle.rules.specs.Standing.{Item, fresh, short, itemOf, valuePlace, valueEnd}
+use Rattle.rules.specs.Taking.{whole, taken, bodyLevel}
+use Rattle.rules.specs.Met.{Met, ends, alone, group}
+use Rattle.rules.specs.Verdicts.{first, refuses, framingChecks, items}
+use Rattle.rules.specs.Covered.{isValueOctet, coveredBy, coveredIn, covered}
+use Rattle.rules.specs.Sound.{sound}
+use Rattle.rules.proofs.Heads.{fits, rest-length, value-length}
+use Rattle.rules.proofs.Standings.{stand-most}
+use Rattle.rules.proofs.Rows.{Every, every-append, every-map, every-at, nth, body-met}
+use Rattle.rules.proofs.Header.{Passed, framed}
+use Rattle.rules.proofs.Covers.{firstCovered, group-open}
+
+-- ---- one row
+
+pub by-before : (i : Item) (j : ℕ) → j < valuePlace i → coveredBy i j ≡ false
+unfolding coveredBy
+by-before i j l = rw (lt-leb (valuePlace i) j l)
+
+pub by-past : (i : Item) (j : ℕ) → valueEnd i ≤ j → coveredBy i j ≡ false
+unfolding coveredBy
+by-past i j l = rw (le-ltb j (valueEnd i) l, and-false (leb (valuePlace i) j))
+
+-- a row that covers neither its first value octet nor the others covers nothing
+pub by-open : (i : Item) (j : ℕ) → firstCovered (i .typ) (i .stand) ≡ false → coversRest (i .typ) ≡ false → coveredBy i j ≡ false
+unfolding coveredBy
+by-open i j f r = rw (f, r, and-false (isValueOctet i j))
+
+pub by-first : (i : Item) → firstCovered (i .typ) (i .stand) ≡ false → coveredBy i (valuePlace i) ≡ false
+unfolding coveredBy
+by-first i f = simp (f, eq-eqb (valuePlace i) (valuePlace i) refl, and-false)
+
+-- ---- a list of rows
+
+pub in-append : (is js : List Item) (j : ℕ) → coveredIn (is ++ js) j ≡ coveredIn is j || coveredIn js j
+unfolding coveredIn
+in-append [] js j = refl
+in-append (i ∷ is) js j = rw (in-append is js j) (sym (or-assoc (coveredBy i j) (coveredIn is j) (coveredIn js j)))
+
+pub in-cons : (i : Item) (is : List Item) (j : ℕ) → coveredBy i j ≡ false → coveredIn is j ≡ false → coveredIn (i ∷ is) j ≡ false
+unfolding coveredIn
+in-cons i is j a c = rw (a, c)
+
+pub in-both : (is js : List Item) (j : ℕ) → coveredIn is j ≡ false → coveredIn js j ≡ false → coveredIn (is ++ js) j ≡ false
+in-both is js j a c = rw (in-append is js j, a, c)
+
+-- ---- a run
+
+pub before : {b : Book} {k v : ℕ} {m : List ℕ} {p n at : ℕ} {xs : List ℕ} {es : List Item} → Met b k v m p n at xs es
+    → (j : ℕ) → j < at + elementHeader → coveredIn es j ≡ false
+unfolding coveredIn itemOf
+before ends j l = refl
+before {b} {k} (alone {v = v} {m = m} {p = p} {at = at} {es = es} h a e t) j l =
+    let i = itemOf b k v m p at h in in-cons i es j (by-before i j l) (before t j (omega arith))
+before {b} {k} (group {v = v} {m = m} {p = p} {at = at} {is = is} {es = es} h g a e d t) j l =
+    let i = itemOf b k v m p at h in
+    in-cons i (is ++ es) j (by-before i j l) (in-both is es j (before d j (omega arith)) (before t j (omega arith)))
+
+pub beyond : {b : Book} {k v : ℕ} {m : List ℕ} {p n at : ℕ} {xs : List ℕ} {es : List Item} → Met b k v m p n at xs es
+    → (j : ℕ) → at + length xs ≤ j → coveredIn es j ≡ false
+unfolding coveredIn itemOf
+beyond ends j l = refl
+beyond {b} {k} (alone {v = v} {m = m} {p = p} {at = at} {xs = xs} {es = es} h a e t) j l =
+    let i = itemOf b k v m p at h in
+    let f = fits a in
+    in-cons i es j (by-past i j (omega (arith, f))) (beyond t j (omega (arith, rest-length xs (h .len) f)))
+beyond {b} {k} (group {v = v} {m = m} {p = p} {at = at} {xs = xs} {is = is} {es = es} h g a e d t) j l =
+    let i = itemOf b k v m p at h in
+    let f = fits a in
+    in-cons i (is ++ es) j (by-past i j (omega (arith, f)))
+    (in-both is es j (beyond d j (omega (arith, f, value-length xs (h .len) f))) (beyond t j (omega (arith, rest-length xs (h .len) f))))
+
+-- no octet of the row's header is covered, for the sake of any of the rows
+abbrev pub HeaderOpen : List Item → Item → Type 0
+HeaderOpen is i = (j : ℕ) → i .place ≤ j → j < valuePlace i → coveredIn is j ≡ false
+
+-- a row among the rows `is`, all from lo on and below hi
+pub record Sits (is : List Item) (lo hi : ℕ) (i : Item) : Type 0 where
+  pub begins : lo ≤ i .place
+  pub finishes : valueEnd i ≤ hi
+  pub stands : i .stand ≤ short
+  pub opens : HeaderOpen is i
+
+sits-more : (is js : List Item) (lo hi lo′ hi′ : ℕ) (es : List Item) → lo′ ≤ lo → hi ≤ hi′
+    → ((j : ℕ) → lo ≤ j → j < hi → coveredIn is j ≡ false → coveredIn js j ≡ false) → Every (Sits is lo hi) es → Every (Sits js lo′ hi′) es
+sits-more is js lo hi lo′ hi′ es a c f s =
+    every-map (Sits is lo hi) (Sits js lo′ hi′) es
+    (λ i x. record {
+      begins = omega (arith, x .begins);
+      finishes = omega (arith, x .finishes);
+      stands = x .stands;
+      opens = λ j l u. f j (omega (arith, x .begins)) (omega (arith, x .finishes)) (x .opens j l u);
+    }) s
+
+pub sits : {b : Book} {k v : ℕ} {m : List ℕ} {p n at : ℕ} {xs : List ℕ} {es : List Item} → sound b ≡ true → Met b k v m p n at xs es
+    → Every (Sits es at (at + length xs)) es
+unfolding Every itemOf
+sits fine ends = tt
+sits {b} {k} fine (alone {v = v} {m = m} {p = p} {at = at} {xs = xs} {es = es} h a e t) =
+    let i = itemOf b k v m p at h in
+    let f = fits a in
+    let r = rest-length xs (h .len) f in
+    let end = at + elementHeader + h .len in (
+      record {
+        begins = omega arith;
+        finishes = omega (arith, f);
+        stands = stand-most b k v m h;
+        opens = λ j l u. in-cons i es j (by-before i j u) (before t j (omega arith));
+      },
+      sits-more es (i ∷ es) end (end + length (drop (elementHeader + h .len) xs)) at (at + length xs) es (omega arith) (omega (arith, r))
+          (λ j l u c. in-cons i es j (by-past i j l) c) (sits fine t),
+    )
+sits {b} {k} fine (group {v = v} {m = m} {p = p} {at = at} {xs = xs} {is = is} {es = es} h g a e d t) =
+    let i = itemOf b k v m p at h in
+    let f = fits a in
+    let q = value-length xs (h .len) f in
+    let r = rest-length xs (h .len) f in
+    let start = at + elementHeader in
+    let end = start + h .len in
+    let o = group-open b fine k v m h g e in (
+      record {
+        begins = omega arith;
+        finishes = omega (arith, f);
+        stands = stand-most b k v m h;
+        opens = λ j l u. in-cons i (is ++ es) j (by-before i j u) (in-both is es j (before d j (omega arith)) (before t j (omega arith)));
+      },
+      every-append (Sits (i ∷ (is ++ es)) at (at + length xs)) is es
+          (sits-more is (i ∷ (is ++ es)) start (start + length (take (h .len) (drop elementHeader xs))) at (at + length xs) is (omega arith) (omega (arith, q, f))
+          (λ j l u c. in-cons i (is ++ es) j (by-open i j (o .0) (o .1)) (in-both is es j c (before t j (omega (arith, q))))) (sits fine d))
+          (sits-more es (i ∷ (is ++ es)) end (end + length (drop (elementHeader + h .len) xs)) at (at + length xs) es (omega arith) (omega (arith, r))
+          (λ j l u c. in-cons i (is ++ es) j (by-past i j l) (in-both is es j (beyond d j (omega (arith, q))) c)) (sits fine t)),
+    )
+
+-- ---- a message
+
+-- a message that passes checks 1 to 9, and its rows
+pub record Framed (b : Book) (k : ℕ) (m : List ℕ) : Type 0 where
+  pub passes : Passed b k m
+  pub rows : List Item
+  pub takes : taken b k m ≡ whole rows
+
+module _ (b : Book) (k : ℕ) (m : List ℕ) where
+  pub rows-framed : refuses (first (framingChecks b k m)) ≡ false → Framed b k m
+  rows-framed e = let w = framed b k m e in record { passes = w .0; rows = w .1 .0; takes = w .1 .1 }
+
+  -- nothing is covered if a check of 1 to 9 applies
+  pub open-refused : refuses (first (framingChecks b k m)) ≡ true → (j : ℕ) → covered b k m j ≡ false
+  unfolding covered
+  open-refused e j = rw e
+
+  -- and what the rows cover if none does
+  pub covered-rows : refuses (first (framingChecks b k m)) ≡ false → (j : ℕ) → covered b k m j ≡ coveredIn (items b k m) j
+  unfolding covered
+  covered-rows e j = rw e
+
+  -- so what no row covers is not covered
+  by-rows : (j : ℕ) → ((f : Framed b k m) → coveredIn (f .rows) j ≡ false) → covered b k m j ≡ false
+  by-rows j c = go (refuses (first (framingChecks b k m))) refl
+    where
+      go : (r : Bool) → refuses (first (framingChecks b k m)) ≡ r → covered b k m j ≡ false
+      go true e = open-refused e j
+      go false e = let f = rows-framed e in covered-rows e j ∙ rw (f .takes) (c f)
+
+  pub body-framed : (f : Framed b k m) → Met b k (bodyLevel b m) fresh 0 0 (headerLength m) (drop (headerLength m) m) (f .rows)
+  body-framed f = body-met b k m (f .rows) (f .takes)
+
+  body-end : Framed b k m → headerLength m + length (drop (headerLength m) m) ≡ length m
+  body-end f = omega (arith, f .passes .has-header, length-drop (headerLength m) m)
+
+  pub header-open : (j : ℕ) → j < headerLength m → covered b k m j ≡ false
+  header-open j l = by-rows j (λ f. before (body-framed f) j (omega arith))
+
+  pub past-open : (j : ℕ) → length m ≤ j → covered b k m j ≡ false
+  past-open j l = by-rows j (λ f. beyond (body-framed f) j (omega (arith, body-end f)))
+
+module _ (b : Book) (fine : sound b ≡ true) (k : ℕ) (m : List ℕ) where
+  -- each row lies past the message's header and in the message
+  pub rows-sit : (f : Framed b k m) → Every (Sits (f .rows) (headerLength m) (length m)) (f .rows)
+  rows-sit f = rw (body-end b k m f) at (sits fine (body-framed b k m f))
+
+  pub row-header-open : (r : ℕ) → r < length (items b k m)
+      → (j : ℕ) → nth (items b k m) r .place ≤ j → j < valuePlace (nth (items b k m) r) → covered b k m j ≡ false
+  row-header-open r c j l u =
+      by-rows b k m j
+      (λ f. every-at (Sits (f .rows) (headerLength m) (length m)) (f .rows) (rows-sit f) r (rw (f .takes) at c) .opens j (rw (f .takes) at l) (rw (f .takes) at u))
