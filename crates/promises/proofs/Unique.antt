@@ -5,9 +5,10 @@ use mathlib.Core.List.{List}
 use Prim.Native.Nat.{ℕ}
 use denote.Ref.{RefT, now, ptr}
 use Rattle.rules.specs.Values.{Stands}
-use Rattle.rules.specs.Answers.{Read, Judged, Masked, Plain, PlainFound, Desk, DeskFound, JudgedOctets, MaskedOctets}
+use Rattle.rules.specs.Answers.{Read, Decided, Judged, Masked, Plain, PlainFound, Desk, DeskFound, JudgedOctets, MaskedOctets}
 use Rattle.rules.specs.declared.Verdict.{Verdict}
 use Rattle.rules.specs.declared.Reading.{Reading}
+use Rattle.rules.specs.declared.Decision.{Decision}
 use Rattle.rules.specs.declared.Span.{Span}
 
 both : {A : Type 0} {x y z : A} → y ≡ x → z ≡ x → y ≡ z
@@ -15,6 +16,9 @@ both e f = e ∙ sym f
 
 pub read-unique : (k : ℕ) (m rows : List ℕ) (r r′ : Reading) (l l′ : List ℕ) → Read k m rows r l → Read k m rows r′ l′ → (r ≡ r′) × (l ≡ l′)
 read-unique k m rows r r′ l l′ x y = (both (x .answers) (y .answers), both (x .rows-left) (y .rows-left))
+
+pub decided-unique : (k : ℕ) (m rows : List ℕ) (room : ℕ) (r r′ : Decision) (l l′ : List ℕ) → Decided k m rows room r l → Decided k m rows room r′ l′ → (r ≡ r′) × (l ≡ l′)
+decided-unique k m rows room r r′ l l′ x y = (both (x .answers) (y .answers), both (x .rows-left) (y .rows-left))
 
 pub judged-unique : (k : ℕ) (m t : List ℕ) (r r′ : Verdict) (l l′ : List ℕ) → Judged k m t r l → Judged k m t r′ l′ → (r ≡ r′) × (l ≡ l′)
 judged-unique k m t r r′ l l′ x y = (both (x .answers) (y .answers), both (x .table-left) (y .table-left))

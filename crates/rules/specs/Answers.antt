@@ -15,6 +15,7 @@ use Rattle.rules.specs.Values.{Stands, deskSpan, plainSpan}
 use Rattle.rules.specs.Octets.{fiveLaid, tableRoom, judgeOctets}
 use Rattle.rules.specs.declared.Verdict.{Verdict}
 use Rattle.rules.specs.declared.Reading.{Reading}
+use Rattle.rules.specs.declared.Decision.{Decision}
 
 -- ---- the reading of a message
 
@@ -47,6 +48,14 @@ pub record Read (kind : ℕ) (message rows : List ℕ) (answer : Reading) (rows�
   pub rows-left : rows′ ≡ readRows book kind message rows
 
 -- ---- the judge
+
+-- its decision, for a table of so many numbers
+unfoldable pub decisionOf : Book → ℕ → List ℕ → ℕ → Decision
+decisionOf b k m room = record { verdict = judgeVerdict b k m room; rows = readingOf b k m .rows; kept = readingOf b k m .kept }
+
+pub record Decided (kind : ℕ) (message rows : List ℕ) (room : ℕ) (answer : Decision) (rows′ : List ℕ) : Type 0 where
+  pub answers : answer ≡ decisionOf book kind message room
+  pub rows-left : rows′ ≡ readRows book kind message rows
 
 pub record Judged (kind : ℕ) (message table : List ℕ) (answer : Verdict) (table′ : List ℕ) : Type 0 where
   pub answers : answer ≡ judgeVerdict book kind message (length table)

@@ -30,6 +30,13 @@ pub struct Reading {
     pub lack: Verdict,
 }
 
+// What the judge decides of a message for a table of some room: the verdict, and the rows and kept rows of its table.
+pub struct Decision {
+    pub verdict: Verdict,
+    pub rows: usize,
+    pub kept: usize,
+}
+
 // Where a value stands in a buffer, and whether a row has one that lies in it. Not there: 0, 0, no.
 pub struct Span {
     pub start: usize,

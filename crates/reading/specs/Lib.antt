@@ -1,0 +1,4 @@
+pub mod Data
+pub mod Header
+pub mod Gaps
+pub mod Held
