@@ -1,0 +1,3 @@
+pub mod Deciding
+pub mod Writing
+pub mod Accepted

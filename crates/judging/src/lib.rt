@@ -1,0 +1,151 @@
+// The judge: the verdict on a message by checks 1 to 12, and its table on acceptance.
+ghost use mathlib.Core.Path.{_≡_};
+ghost use mathlib.Core.List.{[], _∷_, _++_};
+ghost use Prim.Native.Nat.{_+_, _≤_};
+ghost use lib.ListN.{length, drop};
+ghost use lib.Seq.{paste};
+ghost use Rattle.rules.specs.Sizes.{mostRows, used};
+ghost use Rattle.rules.specs.Table.{laid};
+ghost use Rattle.rules.specs.Verdicts.{accepted, refused, first};
+ghost use Rattle.rules.specs.Answers.{Decided, Judged};
+ghost use Rattle.judging.specs.Judging.{given, Enough, numbersOf, Writable};
+use rules::Decision;
+use rules::Reading;
+use rules::Verdict;
+
+fn accept() -> Verdict
+    ensures { λ r. ⌜ r ≡ accepted ⌝ }
+{
+    Verdict {
+        code: 0,
+        cause: 0,
+        place: 0,
+        typ: 0,
+        inst: 0,
+    }
+}
+
+// The table is shorter than the numbers used: 10.
+fn no_room() -> Verdict
+    ensures { λ r. ⌜ r ≡ refused 10 0 ⌝ }
+{
+    Verdict {
+        code: 10,
+        cause: 0,
+        place: 0,
+        typ: 0,
+        inst: 0,
+    }
+}
+
+// The first of two that refuses, or acceptance.
+fn first_of(a: Verdict, b: Verdict) -> Verdict
+    ensures { λ r. ⌜ r ≡ first (a ∷ b ∷ []) ⌝ }
+{
+    if a.code != 0 {
+        return a;
+    }
+    if b.code != 0 {
+        return b;
+    }
+    accept()
+}
+
+// The verdict on a reading, for a table of `room` numbers.
+fn verdict_on(r: Reading, room: usize) -> Verdict
+    requires { ⌜ r .rows ≤ mostRows ⌝ }
+    ensures { λ v. ⌜ v ≡ given r room ⌝ }
+{
+    let refusal = r.refusal;
+    if refusal.code != 0 {
+        return refusal;
+    }
+    if room < 4 + 6 * r.rows {
+        return no_room();
+    }
+    first_of(r.short, r.lack)
+}
+
+// The verdict on a message for a table of `room` numbers, with its rows and kept rows; the rows themselves go to `rows`, as many as there
+// is room for.
+pub fn decide(kind: u32, message: &[u8], rows: &mut [u16], room: usize) -> Decision
+    ensures { λ r. ⌜ Decided kind (now (message .entry)) (now (rows .entry)) room r (now (rows .exit)) ⌝ }
+{
+    let r = reading::read(kind, message, rows);
+    Decision {
+        verdict: verdict_on(r, room),
+        rows: r.rows,
+        kept: r.kept,
+    }
+}
+
+// The header: rows, kept rows, place of the first row, numbers used.
+fn write_header(n: usize, kept: usize, table: &mut [u16])
+    requires { ⌜ (n ≤ mostRows) × (kept ≤ n) × (4 ≤ length (now table)) ⌝ }
+    ensures { λ _. ⌜ now (table .exit) ≡ (n ∷ kept ∷ 4 ∷ used n ∷ []) ++ drop 4 (now (table .entry)) ⌝ }
+{
+    table[0] = n as u16;
+    table[1] = kept as u16;
+    table[2] = 4;
+    table[3] = (4 + 6 * n) as u16;
+}
+
+// The first `count` numbers of `rows`, after the header.
+fn copy_rows(rows: &[u16], count: usize, table: &mut [u16])
+    requires { ⌜ (count ≤ length (now rows)) × (4 + count ≤ length (now table)) ⌝ }
+    ensures { λ _. ⌜ now (table .exit) ≡ paste (now (table .entry)) 4 (now (rows .entry)) count ⌝ }
+{
+    let mut i = 0;
+    while i < count {
+        table[4 + i] = rows[i];
+        i += 1;
+    }
+}
+
+fn write_table(rows: &[u16], n: usize, kept: usize, table: &mut [u16])
+    requires { ⌜ Writable n kept (now rows) (now table) ⌝ }
+    ensures { λ _. ⌜ now (table .exit) ≡ laid (numbersOf n kept (now (rows .entry))) (now (table .entry)) ⌝ }
+{
+    write_header(n, kept, table);
+    copy_rows(rows, 6 * n, table);
+}
+
+// The judge, with a scratch that is large enough for the message.
+pub(crate) fn judge_with(kind: u32, message: &[u8], table: &mut [u16], rows: &mut [u16]) -> Verdict
+    requires { ⌜ Enough (length (now message)) (length (now rows)) ⌝ }
+    ensures { λ r. ⌜ Judged kind (now (message .entry)) (now (table .entry)) r (now (table .exit)) ⌝ }
+{
+    let d = decide(kind, message, rows, table.len());
+    let v = d.verdict;
+    if v.code != 0 {
+        return v;
+    }
+    write_table(rows, d.rows, d.kept, table);
+    v
+}
+
+// Room for 64 rows.
+pub fn small() -> [u16; 384]
+    ensures { λ r. ⌜ 384 ≡ length r ⌝ }
+{
+    [0u16; 384]
+}
+
+// Room for 1,022 rows.
+pub fn large() -> [u16; 6132]
+    ensures { λ r. ⌜ 6132 ≡ length r ⌝ }
+{
+    [0u16; 6132]
+}
+
+// The verdict on a message; the table is written on acceptance alone. 264 octets have at most 64 rows.
+pub fn judge(kind: u32, message: &[u8], table: &mut [u16]) -> Verdict
+    ensures { λ r. ⌜ Judged kind (now (message .entry)) (now (table .entry)) r (now (table .exit)) ⌝ }
+{
+    if message.len() <= 264 {
+        let mut rows = small();
+        return judge_with(kind, message, table, &mut rows);
+    }
+    let mut rows = large();
+    judge_with(kind, message, table, &mut rows)
+}

@@ -1,0 +1,75 @@
+// Numbers stored as octets, two octets a number, high octet first.
+ghost use mathlib.Core.Path.{_≡_};
+ghost use mathlib.Core.List.{[], _∷_, _++_};
+ghost use Prim.Native.Nat.{_+_, _*_, _<_, _≤_};
+ghost use lib.ListN.{length, drop};
+ghost use lib.Seq.{paste};
+ghost use Rattle.rules.specs.Sizes.{mostRows, used};
+ghost use Rattle.rules.specs.Octets.{octetsOf, fiveLaid};
+ghost use Rattle.octets.specs.Stored.{put2, tableStored};
+use rules::Verdict;
+
+fn put(out: &mut [u8], at: usize, v: u16)
+    requires { ⌜ at + 1 < length (now out) ⌝ }
+    ensures { λ _. ⌜ now (out .exit) ≡ put2 (now (out .entry)) at v ⌝ }
+{
+    out[at] = (v / 256) as u8;
+    out[at + 1] = (v % 256) as u8;
+}
+
+// The five numbers of a verdict. A buffer under 10 octets is not written.
+pub fn put_five(v: Verdict, five: &mut [u8])
+    ensures { λ _. ⌜ now (five .exit) ≡ fiveLaid v (now (five .entry)) ⌝ }
+{
+    if five.len() < 10 {
+        return;
+    }
+    put(five, 0, v.code);
+    put(five, 2, v.cause);
+    put(five, 4, v.place);
+    put(five, 6, v.typ);
+    put(five, 8, v.inst);
+}
+
+// A table's header: rows, kept rows, place of the first row, numbers used.
+fn put_header(n: usize, kept: usize, table: &mut [u8])
+    requires { ⌜ (n ≤ mostRows) × (kept ≤ n) × (8 ≤ length (now table)) ⌝ }
+    ensures { λ _. ⌜ now (table .exit) ≡ octetsOf (n ∷ kept ∷ 4 ∷ used n ∷ []) ++ drop 8 (now (table .entry)) ⌝ }
+{
+    put(table, 0, n as u16);
+    put(table, 2, kept as u16);
+    put(table, 4, 4);
+    put(table, 6, (4 + 6 * n) as u16);
+}
+
+// The first `count` numbers of `rows`, after the header.
+fn put_rows(rows: &[u16], count: usize, table: &mut [u8])
+    requires { ⌜ (count ≤ length (now rows)) × (8 + 2 * count ≤ length (now table)) ⌝ }
+    ensures { λ _. ⌜ now (table .exit) ≡ paste (now (table .entry)) 8 (octetsOf (now (rows .entry))) (2 * count) ⌝ }
+{
+    let mut i = 0;
+    while i < count {
+        put(table, 8 + 2 * i, rows[i]);
+        i += 1;
+    }
+}
+
+// The table of the first `n` rows of `rows`, six numbers each. Nothing is written if it does not fit.
+pub fn put_table(rows: &[u16], n: usize, kept: usize, table: &mut [u8])
+    ensures { λ _. ⌜ now (table .exit) ≡ tableStored (now (rows .entry)) n kept (now (table .entry)) ⌝ }
+{
+    if 1022 < n {
+        return;
+    }
+    if n < kept {
+        return;
+    }
+    if rows.len() < 6 * n {
+        return;
+    }
+    if table.len() < 2 * (4 + 6 * n) {
+        return;
+    }
+    put_header(n, kept, table);
+    put_rows(rows, 6 * n, table);
+}
