@@ -10,4 +10,5 @@ pub mod Header
 pub mod Repeats
 pub mod Covers
 pub mod Book
+pub mod Program
 pub mod Examples

@@ -11,5 +11,6 @@ pub mod Covered
 pub mod Values
 pub mod Octets
 pub mod Answers
+pub mod Program
 pub mod Examples
 pub mod Sound

@@ -1,0 +1,64 @@
+-- `report` puts the text by the decision. Assumes nothing.
+use native.Mathlib.Omega.{arith}
+use Rattle.judging.proofs.Accepted.{ready}
+use Rattle.lines.proofs.Reports.{reported-refused, reported-accepted}
+use borrow.Author.Needs.{needs}
+use Rattle.lines.proofs.report.Statement.{statement}
+use Rattle.lines.proofs.report.Tie as tie
+
+large-requires : tie.Need-large-requires
+large-requires c κs = search needs
+
+slice-aggregate-decide : tie.Need-slice-aggregate-decide
+slice-aggregate-decide c = search needs
+
+decide-requires : tie.Need-decide-requires
+decide-requires c κs = search needs
+
+refusal-requires : tie.Need-refusal-requires
+refusal-requires c κs = search needs
+
+same-length : tie.Need-same-length
+same-length c = search needs
+
+returns : tie.Need-returns
+returns c = let s = c .before .before .before .before .before .before .before .before .before .before .before .before .before in reported-refused (s .args .kind) (s .args .message .now) (s .args .out .now) (c .before .before .before .before .before .before .before .before .decide .ensures) (c .before .before .before .before .if1 .taken) (c .before .before .refusal .ensures)
+
+cast-counts : tie.Need-cast-counts
+cast-counts c = let q = ready (c .before .before .before .before .before .before .before .before .before .before .args .kind) (c .before .before .before .before .before .before .before .before .before .before .args .message .now) (c .before .before .before .before .before .decide .ensures) (λ few. omega (arith, c .before .before .before .before .before .before .before .large .ensures)) (c .before .if1 .left) in omega (arith, q .few)
+
+cast-counts-2 : tie.Need-cast-counts-2
+cast-counts-2 c = let q = ready (c .before .before .before .before .before .before .before .before .before .before .before .args .kind) (c .before .before .before .before .before .before .before .before .before .before .before .args .message .now) (c .before .before .before .before .before .before .decide .ensures) (λ few. omega (arith, c .before .before .before .before .before .before .before .before .large .ensures)) (c .before .before .if1 .left) in omega (arith, q .few, q .kept-few)
+
+counts-requires : tie.Need-counts-requires
+counts-requires c κs = search needs
+
+slice-aggregate-row-lines : tie.Need-slice-aggregate-row-lines
+slice-aggregate-row-lines c = search needs
+
+row-lines-requires : tie.Need-row-lines-requires
+row-lines-requires c κs = let q = ready (c .before .before .before .before .before .before .before .before .before .before .before .before .before .before .before .before .before .args .kind) (c .before .before .before .before .before .before .before .before .before .before .before .before .before .before .before .before .before .args .message .now) (c .before .before .before .before .before .before .before .before .before .before .before .before .decide .ensures) (λ few. omega (arith, c .before .before .before .before .before .before .before .before .before .before .before .before .before .before .large .ensures)) (c .before .before .before .before .before .before .before .before .if1 .left) in q .there
+
+same-length-2 : tie.Need-same-length-2
+same-length-2 c = search needs
+
+returns-2 : tie.Need-returns-2
+returns-2 c = let s = c .before .before .before .before .before .before .before .before .before .before .before .before .before .before .before .before .before .before .before .before in reported-accepted (s .args .kind) (s .args .message .now) (s .args .out .now) (c .before .before .before .before .before .before .before .before .before .before .before .before .before .before .before .decide .ensures) (ready (c .before .before .before .before .before .before .before .before .before .before .before .before .before .before .before .before .before .before .before .before .args .kind) (c .before .before .before .before .before .before .before .before .before .before .before .before .before .before .before .before .before .before .before .before .args .message .now) (c .before .before .before .before .before .before .before .before .before .before .before .before .before .before .before .decide .ensures) (λ few. omega (arith, c .before .before .before .before .before .before .before .before .before .before .before .before .before .before .before .before .before .large .ensures)) (c .before .before .before .before .before .before .before .before .before .before .before .if1 .left)) (c .before .before .before .before .before .before .before .counts .ensures) (c .before .before .row-lines .ensures)
+
+pub report-spec : {M : Type 1} → statement M
+report-spec =
+    tie.close
+    (tie.spec
+    large-requires
+    slice-aggregate-decide
+    decide-requires
+    refusal-requires
+    same-length
+    returns
+    cast-counts
+    cast-counts-2
+    counts-requires
+    slice-aggregate-row-lines
+    row-lines-requires
+    same-length-2
+    returns-2)

@@ -1,0 +1,3 @@
+pub mod Tables
+pub mod Spans
+pub mod Seeking
