@@ -1,4 +1,4 @@
--- What the judge's export leaves, from the decision and what is stored of it. Assumes nothing.
+-- What the exports leave: the judge's from the decision and what is stored of it, the masker's from the masker. Assumes nothing.
 use mathlib.Core.Path.{_≡_, refl, ap, _∙_}
 use mathlib.Core.Bool.{Bool, true, false}
 use mathlib.Core.List.{List}
@@ -10,7 +10,7 @@ use Rattle.rules.specs.Listings.{book}
 use Rattle.rules.specs.Table.{tableOf, laid}
 use Rattle.rules.specs.Verdicts.{refuses, items}
 use Rattle.rules.specs.Octets.{octetsOf, fiveLaid, tableRoom, judgeOctets}
-use Rattle.rules.specs.Answers.{Decided, JudgedOctets}
+use Rattle.rules.specs.Answers.{Decided, JudgedOctets, Masked, MaskedOctets}
 use Rattle.rules.specs.declared.Verdict.{Verdict}
 use Rattle.rules.specs.declared.Decision.{Decision}
 use Rattle.judging.specs.Judging.{Enough}
@@ -40,3 +40,10 @@ module _ (k : ℕ) (m table : List ℕ) {rows rows′ : List ℕ} {d : Decision}
     table-left = e ∙ table-case (refuses (d .verdict)) refl;
     five-left = f ∙ ap (λ (v : Verdict). fiveLaid v five) (verdict-is k m x);
   }
+
+pub masked-octets : {k : ℕ} {m copy five copy′ five′ : List ℕ} {v : Verdict} → Masked k m copy v copy′ → five′ ≡ fiveLaid v five → MaskedOctets k m copy five (v .code) copy′ five′
+masked-octets {five = five} x f = record {
+  answers = ap (λ (u : Verdict). u .code) (x .answers);
+  copy-left = x .copy-left;
+  five-left = f ∙ ap (λ (u : Verdict). fiveLaid u five) (x .answers);
+}

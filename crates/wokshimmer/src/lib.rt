@@ -1,7 +1,7 @@
 // The exports to C: numbers go as octets, and the code is the result.
 ghost use mathlib.Core.Path.{_≡_};
 ghost use lib.ListN.{length};
-ghost use Rattle.rules.specs.Answers.{JudgedOctets};
+ghost use Rattle.rules.specs.Answers.{JudgedOctets, MaskedOctets};
 ghost use Rattle.judging.specs.Judging.{Enough};
 ghost use Rattle.wokshimmer.specs.Exports.{tableFor};
 use rules::Decision;
@@ -40,4 +40,14 @@ pub extern "C" fn wok_judge(kind: u32, message: &[u8], table: &mut [u8], five: &
     }
     let mut rows = judging::large();
     judge_with(kind, message, table, five, &mut rows)
+}
+
+// The verdict's code; its five numbers go to `five`, and if 1 to 9 and 13 pass the masked copy to `copy`.
+#[no_mangle]
+pub extern "C" fn wok_mask(kind: u32, message: &[u8], copy: &mut [u8], five: &mut [u8]) -> u16
+    ensures { λ r. ⌜ MaskedOctets kind (now (message .entry)) (now (copy .entry)) (now (five .entry)) r (now (copy .exit)) (now (five .exit)) ⌝ }
+{
+    let v = masking::mask(kind, message, copy);
+    octets::put_five(v, five);
+    v.code
 }

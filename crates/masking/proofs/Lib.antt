@@ -1,0 +1,7 @@
+pub mod Clearing
+pub mod Laying
+pub mod Masks
+pub mod Opening
+pub mod Parts
+pub mod Rowed
+pub mod Scratch

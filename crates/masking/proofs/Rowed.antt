@@ -1,0 +1,66 @@
+-- The numbers of the scratch are those of the elements, so that clearing by them clears the elements. Assumes nothing.
+--     number-is   number c of row i is number c of the element's row          clear-is    the rows cleared are the elements cleared
+--     within-is   the rows have types, and values within the copy
+use mathlib.Core.Path.{_≡_, refl, ap, _∙_}
+use mathlib.Core.List.{List, [], _∷_, _++_}
+use Prim.Native.Nat.{ℕ, zero, suc, _+_, _*_, _≤_, _<_}
+use native.Mathlib.Omega.{arith}
+use lib.ListN.{length, take, getD, length-append, List·getD-append}
+use lib.Seq.{getD-append-add, take-suc, take-length}
+use Rattle.rules.specs.Sizes.{rowNumbers}
+use Rattle.rules.specs.Standing.{Item}
+use Rattle.rules.specs.Table.{row, rowsOf, laid}
+use Rattle.rules.specs.Covered.{cleared, clearAll}
+use Rattle.rules.proofs.Rows.{noItem, nth, Every, every-at, Fits}
+use Rattle.masking.specs.Clearing.{number, clearedRow, clearedRows, Within}
+
+pub rows-length : (is : List Item) → length (rowsOf is) ≡ rowNumbers * length is
+unfolding rowsOf
+rows-length [] = refl
+rows-length (i ∷ is) = omega (arith, rows-length is)
+
+in-rows : (is : List Item) (r c : ℕ) → r < length is → c < rowNumbers → getD (rowsOf is) (rowNumbers * r + c) 0 ≡ getD (row (nth is r)) c 0
+unfolding rowsOf
+in-rows [] r c l h = absurd (omega arith)
+in-rows (i ∷ is) zero c l h = let e : rowNumbers * 0 + c ≡ c = omega arith in rw e (List·getD-append (row i) (rowsOf is) 0 c h)
+in-rows (i ∷ is) (suc r) c l h =
+    let e : rowNumbers * suc r + c ≡ length (row i) + (rowNumbers * r + c) = omega arith in
+    rw e (getD-append-add (row i) (rowsOf is) (rowNumbers * r + c) 0 ∙ in-rows is r c (omega arith) h)
+
+clear-snoc : (copy : List ℕ) (is : List Item) (i : Item) → clearAll copy (is ++ (i ∷ [])) ≡ cleared (clearAll copy is) i
+unfolding clearAll
+clear-snoc copy [] i = refl
+clear-snoc copy (j ∷ is) i = clear-snoc (cleared copy j) is i
+
+module _ (is : List Item) (scratch rows : List ℕ) (e : rows ≡ laid (rowsOf is) scratch) where
+  pub number-is : (i c : ℕ) → i < length is → c < rowNumbers → number rows i c ≡ getD (row (nth is i)) c 0
+  unfolding laid
+  number-is i c l h =
+      let n = rows-length is in
+      rw e (List·getD-append (rowsOf is) _ 0 (rowNumbers * i + c) (omega arith) ∙ in-rows is i c l h)
+
+  row-cleared : (i : ℕ) (copy : List ℕ) → i < length is → clearedRow rows i copy ≡ cleared copy (nth is i)
+  unfolding clearedRow
+  row-cleared i copy l =
+      rw (number-is i 1 l (omega arith), number-is i 3 l (omega arith), number-is i 4 l (omega arith), number-is i 5 l (omega arith))
+
+  cleared-take : (copy : List ℕ) (n : ℕ) → n ≤ length is → clearedRows rows n copy ≡ clearAll copy (take n is)
+  unfolding clearedRows clearAll
+  cleared-take copy zero l = refl
+  cleared-take copy (suc n) l =
+      rw (take-suc is n noItem (omega arith), clear-snoc copy (take n is) (nth is n), cleared-take copy n (omega arith))
+      (row-cleared n (clearAll copy (take n is)) (omega arith))
+
+  pub clear-is : (copy : List ℕ) → clearedRows rows (length is) copy ≡ clearAll copy is
+  clear-is copy = cleared-take copy (length is) (omega arith) ∙ rw take-length
+
+  -- rows of a run that ends within the copy
+  pub within-is : (n top room : ℕ) → Every (Fits n top) is → top ≤ room → Within rows (length is) room
+  unfolding laid
+  within-is n top room f w i l =
+      let x = every-at (Fits n top) is f i l in
+      record {
+        long = omega (arith, rows-length is, simp length-append at (ap length e));
+        typ = rw (number-is i 1 l (omega arith)) (x .typ);
+        ends = rw (number-is i 3 l (omega arith), number-is i 4 l (omega arith)) (omega (arith, x .ends));
+      }

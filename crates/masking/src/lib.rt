@@ -1,0 +1,138 @@
+// The masker: a copy of a message in which every covered octet is 0, each value cleared in its own part of the copy.
+ghost use mathlib.Core.Path.{_≡_};
+ghost use Prim.Native.Nat.{_+_, _-_, _≤_};
+ghost use lib.ListN.{length, replicate};
+ghost use Rattle.rules.specs.Verdicts.{refused};
+ghost use Rattle.rules.specs.Covered.{openOctets, zeroed};
+ghost use Rattle.rules.specs.Answers.{Masked};
+ghost use Rattle.facts.specs.Facts.{facts};
+ghost use Rattle.masking.specs.Clearing.{clearedRow, clearedRows, RowWithin, Within};
+ghost use Rattle.masking.specs.Scratch.{Enough};
+use rules::Verdict;
+
+pub(crate) fn verdict(code: u16) -> Verdict
+    ensures { λ r. ⌜ r ≡ refused code 0 ⌝ }
+{
+    Verdict {
+        code,
+        cause: 0,
+        place: 0,
+        typ: 0,
+        inst: 0,
+    }
+}
+
+// Every octet of the part becomes 0.
+pub(crate) fn clear(part: &mut [u8])
+    ensures { λ _. ⌜ now (part .exit) ≡ replicate (length (now (part .entry))) 0 ⌝ }
+{
+    let mut n = 0;
+    while n < part.len() {
+        part[n] = 0;
+        n += 1;
+    }
+}
+
+// A value of `len` octets at `place`, whose first `shown` octets stay.
+pub(crate) fn clear_value(copy: &mut [u8], place: usize, len: usize, shown: usize)
+    requires { ⌜ (shown ≤ len) × (place + len ≤ length (now copy)) ⌝ }
+    ensures { λ _. ⌜ now (copy .exit) ≡ zeroed (now (copy .entry)) (place + shown) (len - shown) ⌝ }
+{
+    let start = place + shown;
+    let end = place + len;
+    clear(&mut copy[start..end]);
+}
+
+// How many leading octets of a value stay: none if it is set aside.
+pub(crate) fn open_octets(types: &[u8; 256], typ: u8, stand: u16, len: usize) -> usize
+    requires { ⌜ now types ≡ facts ⌝ }
+    ensures { λ r. ⌜ r ≡ openOctets typ stand len ⌝ }
+{
+    if stand == 1 {
+        return 0;
+    }
+    if stand == 2 {
+        return 0;
+    }
+    let cover = facts::cover(types, typ);
+    if cover == 1 {
+        return 0;
+    }
+    if cover != 2 {
+        return len;
+    }
+    if len == 0 {
+        return 0;
+    }
+    // 79 keeps its first octet.
+    1
+}
+
+// What is covered of the value of row `n`.
+pub(crate) fn clear_row(types: &[u8; 256], rows: &[u16], n: usize, copy: &mut [u8])
+    requires { ⌜ (now types ≡ facts) × RowWithin (now rows) n (length (now copy)) ⌝ }
+    ensures { λ _. ⌜ now (copy .exit) ≡ clearedRow (now (rows .entry)) n (now (copy .entry)) ⌝ }
+{
+    let at = 6 * n;
+    let place = rows[at + 3] as usize;
+    let len = rows[at + 4] as usize;
+    let shown = open_octets(types, rows[at + 1] as u8, rows[at + 5], len);
+    clear_value(copy, place, len, shown);
+}
+
+// What is covered of the values of the first `count` rows.
+pub(crate) fn clear_rows(types: &[u8; 256], rows: &[u16], count: usize, copy: &mut [u8])
+    requires { ⌜ (now types ≡ facts) × Within (now rows) count (length (now copy)) ⌝ }
+    ensures { λ _. ⌜ now (copy .exit) ≡ clearedRows (now (rows .entry)) count (now (copy .entry)) ⌝ }
+{
+    let mut row = 0;
+    while row < count {
+        clear_row(types, rows, row, copy);
+        row += 1;
+    }
+}
+
+// The masker, with a scratch that has room for every row of the message.
+pub(crate) fn mask_with(kind: u32, message: &[u8], copy: &mut [u8], rows: &mut [u16]) -> Verdict
+    requires { ⌜ Enough (length (now message)) (length (now rows)) ⌝ }
+    ensures { λ r. ⌜ Masked kind (now (message .entry)) (now (copy .entry)) r (now (copy .exit)) ⌝ }
+{
+    let r = reading::read(kind, message, rows);
+    let v = r.refusal;
+    if v.code != 0 {
+        return v;
+    }
+    if copy.len() < message.len() {
+        return verdict(13);
+    }
+    copying::copy_octets(message, copy);
+    let types = facts::table();
+    clear_rows(&types, rows, r.rows, copy);
+    verdict(0)
+}
+
+// 64 rows.
+pub(crate) fn small() -> [u16; 384]
+    ensures { λ r. ⌜ length r ≡ 384 ⌝ }
+{
+    [0u16; 384]
+}
+
+// 1,022 rows.
+pub(crate) fn large() -> [u16; 6132]
+    ensures { λ r. ⌜ length r ≡ 6132 ⌝ }
+{
+    [0u16; 6132]
+}
+
+// The copy of a message with every covered octet 0; a refused message leaves the copy alone.
+pub fn mask(kind: u32, message: &[u8], copy: &mut [u8]) -> Verdict
+    ensures { λ r. ⌜ Masked kind (now (message .entry)) (now (copy .entry)) r (now (copy .exit)) ⌝ }
+{
+    if message.len() <= 264 {
+        let mut rows = small();
+        return mask_with(kind, message, copy, &mut rows);
+    }
+    let mut rows = large();
+    mask_with(kind, message, copy, &mut rows)
+}
