@@ -1,0 +1,78 @@
+/*
+ * Wokshimmer: judges and masks GTPv2-C messages (3GPP TS 29.274).
+ *
+ * Both functions answer for every input and ask only this of their caller:
+ *   - each pointer is valid for the length that follows it, in octets; NULL is fine with length 0;
+ *   - a buffer that is written (table, copy, five) overlaps nothing else that is passed.
+ * They keep nothing between calls, allocate nothing, and may be called from several threads at once.
+ * Stack: under 16 KiB a call.
+ */
+#ifndef WOKSHIMMER_H
+#define WOKSHIMMER_H
+
+#include <stddef.h>
+#include <stdint.h>
+
+#ifdef __cplusplus
+extern "C" {
+#endif
+
+/* Interface kinds. */
+#define WOK_KIND_S11 1u
+#define WOK_KIND_S4 2u
+#define WOK_KIND_S5_S8 3u
+
+/* Codes: the result of both functions, and the first of the five numbers. */
+#define WOK_ACCEPTED 0u
+#define WOK_UNKNOWN_KIND 1u       /* the kind is not 1 to 3 */
+#define WOK_BAD_SIZE 2u           /* the message is empty or over 4,096 octets */
+#define WOK_WRONG_VERSION 3u      /* the version is not 2 */
+#define WOK_NO_HEADER 4u          /* the message is shorter than its header */
+#define WOK_PIGGYBACKED 5u        /* P is set */
+#define WOK_WRONG_LENGTH 6u       /* the length field + 4 is not the message's length */
+#define WOK_UNKNOWN_MESSAGE 7u    /* the message type is not listed */
+#define WOK_WRONG_T 8u            /* T is wrong for the message type */
+#define WOK_BAD_FRAMING 9u        /* an element does not lie in what its level has left; place */
+#define WOK_TABLE_SHORT 10u       /* judge: the table is too short for the rows */
+#define WOK_MANDATORY_SHORT 11u   /* a mandatory element is short; place, type, instance */
+#define WOK_MANDATORY_MISSING 12u /* a mandatory element is missing; place of the level, type, instance */
+#define WOK_COPY_SHORT 13u        /* mask: the copy buffer is shorter than the message */
+
+/* Reply causes: the second of the five numbers, or 0. */
+#define WOK_CAUSE_INVALID_LENGTH 67u
+#define WOK_CAUSE_MANDATORY_IE_MISSING 70u
+
+/* Standings: the last number of a row. */
+#define WOK_KEPT 0u
+#define WOK_UNEXPECTED 1u
+#define WOK_REPEATED 2u
+#define WOK_SHORT 3u
+
+/* Sizes. A number of the table or of the five is two octets, high octet first. */
+#define WOK_LARGEST_MESSAGE 4096u /* octets */
+#define WOK_MOST_ROWS 1022u       /* rows of a message of that size */
+#define WOK_HEADER_NUMBERS 4u     /* rows, kept rows, place of the first row, numbers used */
+#define WOK_ROW_NUMBERS 6u        /* parent (0, or a row counted from 1), type, instance, value place, value length, standing */
+#define WOK_TABLE_OCTETS 12272u   /* a table that holds 1,022 rows: 2 * (4 + 6 * 1,022) */
+#define WOK_FIVE_OCTETS 10u       /* code, cause, place, type, instance */
+
+/*
+ * Judges a message. Answers the code. On acceptance the table holds its header and one row an element, in octet order, depth first;
+ * what lies past the numbers used stays, and so does an odd last octet. On a refusal the table stays as it was.
+ * The five numbers are written if their buffer has 10 octets or more; octets past 10 stay. A shorter buffer stays as it was, and
+ * stops no other write.
+ */
+uint16_t wok_judge(uint32_t kind, const uint8_t *message, size_t message_len, uint8_t *table, size_t table_len, uint8_t *five, size_t five_len);
+
+/*
+ * Makes a masked copy of a message: every octet that tells of the subscriber is zero, every other one is the message's own. Answers the
+ * code: 1 to 9, 13, or 0 where the copy is made, also where the judge would say 10, 11 or 12. The copy, judged, gets the message's own
+ * verdict and table. Octets past the message's length stay; on a refusal the whole copy stays as it was. The five numbers as above.
+ */
+uint16_t wok_mask(uint32_t kind, const uint8_t *message, size_t message_len, uint8_t *copy, size_t copy_len, uint8_t *five, size_t five_len);
+
+#ifdef __cplusplus
+}
+#endif
+
+#endif
