@@ -1,16 +1,9 @@
 // The judge program: a kind octet and a message on standard input; the verdict and the rows on standard output.
 
-// The first `n` octets of `text` to standard output.
-fn write(text: &[u8], n: usize) {
-    if n <= text.len() {
-        io::write_all(1, &text[..n]);
-    }
-}
-
 // The text on an input, by way of `out`.
 fn answer(input: &[u8], out: &mut [u8]) {
     let n = lines::text(input, out);
-    write(out, n);
+    output::first(out, n);
 }
 
 fn main() {

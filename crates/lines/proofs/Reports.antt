@@ -34,7 +34,7 @@ module _ (k : ℕ) (m out : List ℕ) {rows rows′ : List ℕ} {d : Decision} (
   reported-refused n p = rw (refused-is k m x n, ← verdict-is k m x) p
 
   module _ (q : Ready k m rows′ (used mostRows) d) where
-    count-is : d .rows ≡ length (items book k m)
+    pub count-is : d .rows ≡ length (items book k m)
     unfolding tableOf header
     count-is = ap (λ t. getD t 0 0) (q .numbers)
 

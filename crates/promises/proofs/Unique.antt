@@ -6,6 +6,7 @@ use Prim.Native.Nat.{ℕ}
 use denote.Ref.{RefT, now, ptr}
 use Rattle.rules.specs.Values.{Stands}
 use Rattle.rules.specs.Answers.{Read, Decided, Judged, Masked, Plain, PlainFound, Desk, DeskFound, JudgedOctets, MaskedOctets}
+use Rattle.rules.specs.Program.{Written}
 use Rattle.rules.specs.declared.Verdict.{Verdict}
 use Rattle.rules.specs.declared.Reading.{Reading}
 use Rattle.rules.specs.declared.Decision.{Decision}
@@ -54,3 +55,6 @@ judged-octets-unique k m t five r r′ l l′ f f′ x y = (both (x .answers) (y
 pub masked-octets-unique : (k : ℕ) (m c five : List ℕ) (r r′ : ℕ) (l l′ f f′ : List ℕ) → MaskedOctets k m c five r l f → MaskedOctets k m c five r′ l′ f′
     → (r ≡ r′) × (l ≡ l′) × (f ≡ f′)
 masked-octets-unique k m c five r r′ l l′ f f′ x y = (both (x .answers) (y .answers), both (x .copy-left) (y .copy-left), both (x .five-left) (y .five-left))
+
+pub written-unique : (input out : List ℕ) (r r′ : ℕ) (o o′ : List ℕ) → Written input out r o → Written input out r′ o′ → (r ≡ r′) × (o ≡ o′)
+written-unique input out r r′ o o′ x y = (both (x .answers) (y .answers), both (x .out-left) (y .out-left))

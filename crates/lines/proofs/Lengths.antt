@@ -1,0 +1,87 @@
+-- The judge program's text is at most 40,000 octets, so that a buffer of that length never cuts it: a number has at most five digits, and an
+-- accepted message at most 1,022 rows. Assumes nothing.
+use mathlib.Core.Path.{_≡_, refl}
+use mathlib.Core.Bool.{Bool, true, false, cond}
+use mathlib.Core.List.{List, [], _∷_, _++_}
+use Prim.Native.Nat.{ℕ, _+_, _*_, _/_, _%_, _≤_}
+use native.Mathlib.Omega.{arith}
+use lib.Dec.{ltb}
+use borrow.Author.Tests.{ltb-false}
+use lib.ListN.{length, length-append, replicate, length-replicate}
+use Rattle.rules.specs.Sizes.{mostRows, used}
+use Rattle.rules.specs.Listings.{book}
+use Rattle.rules.specs.Standing.{Item, valuePlace}
+use Rattle.rules.specs.Table.{row, keptRows}
+use Rattle.rules.specs.Verdicts.{items, refuses, judgeVerdict}
+use Rattle.rules.specs.Octets.{five}
+use Rattle.rules.specs.Program.{digitAt, decimal, blanked, line, rowLines, textOf, acceptWord, refuseWord}
+use Rattle.rules.specs.Answers.{readRows, decisionOf, Decided}
+use Rattle.rules.specs.declared.Verdict.{Verdict}
+use Rattle.judging.proofs.Accepted.{ready}
+use Rattle.lines.proofs.Reports.{count-is}
+
+digit-length : (n power : ℕ) → length (digitAt n power) ≤ 1
+unfolding digitAt
+digit-length n power = go (ltb n power)
+  where
+    go : (c : Bool) → length (cond c [] ((48 + n / power % 10) ∷ [])) ≤ 1
+    go true = omega arith
+    go false = omega arith
+
+pub decimal-length : (n : ℕ) → length (decimal n) ≤ 5
+unfolding decimal
+decimal-length n =
+    let d = (48 + n % 10) ∷ [] in
+    omega (
+      arith,
+      digit-length n 10000,
+      digit-length n 1000,
+      digit-length n 100,
+      digit-length n 10,
+      length-append (digitAt n 10000) (digitAt n 1000 ++ (digitAt n 100 ++ (digitAt n 10 ++ d))),
+      length-append (digitAt n 1000) (digitAt n 100 ++ (digitAt n 10 ++ d)),
+      length-append (digitAt n 100) (digitAt n 10 ++ d),
+      length-append (digitAt n 10) d,
+    )
+
+blanked-length : (xs : List ℕ) → length (blanked xs) ≤ 6 * length xs + 1
+unfolding blanked
+blanked-length [] = omega arith
+blanked-length (x ∷ xs) = omega (arith, length-append (decimal x) (blanked xs), decimal-length x, blanked-length xs)
+
+line-length : (i : Item) → length (line (row i)) ≤ 36
+unfolding line
+line-length i =
+    omega (arith, length-append (decimal (i .parent)) (blanked (i .typ ∷ i .inst ∷ valuePlace i ∷ i .len ∷ i .stand ∷ [])), decimal-length (i .parent), blanked-length (i .typ ∷ i .inst ∷ valuePlace i ∷ i .len ∷ i .stand ∷ []))
+
+lines-length : (is : List Item) → length (rowLines is) ≤ 36 * length is
+unfolding rowLines
+lines-length [] = omega arith
+lines-length (i ∷ is) = omega (arith, length-append (line (row i)) (rowLines is), line-length i, lines-length is)
+
+module _ (k : ℕ) (m : List ℕ) where
+  -- the judge's decision on any scratch that is large enough says so
+  few-by : (scratch : List ℕ) → length scratch ≡ 6132 → refuses (judgeVerdict book k m (used mostRows)) ≡ false → length (items book k m) ≤ mostRows
+  unfolding decisionOf
+  few-by scratch n e =
+      let d : Decided k m scratch (used mostRows) (decisionOf book k m (used mostRows)) (readRows book k m scratch) = record { answers = refl; rows-left = refl } in
+      let q = ready k m d (λ l. omega (arith, n)) (omega (arith, ltb-false 0 (judgeVerdict book k m (used mostRows) .code) e)) in
+      rw (← count-is k m [] d q) (q .few)
+
+  few : refuses (judgeVerdict book k m (used mostRows)) ≡ false → length (items book k m) ≤ mostRows
+  few = few-by (replicate {A = ℕ} 6132 0) (length-replicate {A = ℕ} 6132 0)
+
+  pub text-length : length (textOf book k m) ≤ 40000
+  unfolding textOf
+  text-length = go (refuses (judgeVerdict book k m (used mostRows))) refl
+    where
+      v : Verdict
+      v = judgeVerdict book k m (used mostRows)
+
+      is : List Item
+      is = items book k m
+
+      go : (c : Bool) → refuses v ≡ c → length (cond c (refuseWord ++ blanked (five v)) (acceptWord ++ (blanked (length is ∷ keptRows is ∷ []) ++ rowLines is))) ≤ 40000
+      go true e = omega (arith, blanked-length (five v))
+      go false e =
+          omega (arith, few e, length-append (blanked (length is ∷ keptRows is ∷ [])) (rowLines is), blanked-length (length is ∷ keptRows is ∷ []), lines-length is)

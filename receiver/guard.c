@@ -1,0 +1,265 @@
+/*
+ * Judge and mask on a thread with a small stack, on buffers of exact size that end right before a page that may not be touched and
+ * then on ones that start right after such a page. Run from the folder that holds samples/.
+ */
+#define _DEFAULT_SOURCE
+
+#include <pthread.h>
+#include <stdio.h>
+#include <stdlib.h>
+#include <string.h>
+#include <sys/mman.h>
+
+#include "stack.h"
+#include "wokshimmer.h"
+
+#define PAGE 4096u
+#define ROOM (4 * PAGE)
+#define PATTERN 0xA5u
+#define SMALL_MESSAGE 264u
+#define LEAST_LEFT 1024u /* octets of the stack that no call may write */
+
+struct call {
+    int masks;
+    uint32_t kind;
+    const uint8_t *message;
+    size_t message_len;
+    uint8_t *out;
+    size_t out_len;
+    uint8_t *five;
+    size_t five_len;
+    uint16_t code;
+    size_t used;    /* octets of the stack, from the caller's frame down to the lowest one written */
+    size_t written; /* how many of these were written; the others were set aside only */
+    size_t left;    /* octets of the stack below these */
+};
+
+static uint8_t *stack, *message_room, *out_room, *five_room;
+static size_t most_used[2][2], most_written[2][2]; /* by larger, masks */
+static size_t least_left = STACK_OCTETS;
+static unsigned passed, failed;
+
+static void fail(const char *what) {
+    perror(what);
+    exit(1);
+}
+
+static void check(int is, const char *name, const char *what) {
+    if (is) {
+        passed++;
+    } else {
+        failed++;
+        printf("%s: %s\n", name, what);
+    }
+}
+
+/* Pages that may be used, between two that may not. */
+static uint8_t *guarded(size_t len) {
+    uint8_t *all = mmap(NULL, len + 2 * PAGE, PROT_NONE, MAP_PRIVATE | MAP_ANONYMOUS, -1, 0);
+    if (all == MAP_FAILED || mprotect(all + PAGE, len, PROT_READ | PROT_WRITE) != 0) fail("pages");
+    return all + PAGE;
+}
+
+/* So many octets of a room, at its end or at its start. */
+static uint8_t *exact(uint8_t *room, size_t len, int at_end) {
+    return at_end ? room + ROOM - len : room;
+}
+
+static void *on_small_stack(void *argument) {
+    struct call *c = argument;
+    volatile uint8_t frame = 0;
+    c->code = (c->masks ? wok_mask : wok_judge)(c->kind, c->message, c->message_len, c->out, c->out_len, c->five, c->five_len);
+    size_t top = (size_t)((uintptr_t)&frame - (uintptr_t)stack);
+    while (c->left < top && stack[c->left] == PATTERN) c->left++;
+    c->used = top - c->left;
+    for (size_t at = c->left; at < top; at++) c->written += stack[at] != PATTERN;
+    return NULL;
+}
+
+static void run(struct call *c) {
+    pthread_t thread;
+    pthread_attr_t small;
+    memset(stack, PATTERN, STACK_OCTETS);
+    if (pthread_attr_init(&small) != 0 || pthread_attr_setstack(&small, stack, STACK_OCTETS) != 0) fail("stack");
+    if (pthread_create(&thread, &small, on_small_stack, c) != 0 || pthread_join(thread, NULL) != 0) fail("thread");
+    pthread_attr_destroy(&small);
+    int larger = c->message_len > SMALL_MESSAGE;
+    if (c->used > most_used[larger][c->masks]) most_used[larger][c->masks] = c->used;
+    if (c->written > most_written[larger][c->masks]) most_written[larger][c->masks] = c->written;
+    if (c->left < least_left) least_left = c->left;
+}
+
+/* Runs a call on exact buffers filled with the pattern; the message's room is for reading only meanwhile. */
+static struct call on_exact(int masks, uint32_t kind, const uint8_t *message, size_t len, size_t out_len, int at_end) {
+    struct call c = {masks, kind, NULL, len, NULL, out_len, NULL, WOK_FIVE_OCTETS, 0, 0, 0, 0};
+    uint8_t *own = exact(message_room, len, at_end);
+    if (len != 0) memcpy(own, message, len);
+    c.message = own;
+    c.out = exact(out_room, out_len, at_end);
+    c.five = exact(five_room, c.five_len, at_end);
+    memset(out_room, PATTERN, ROOM);
+    memset(five_room, PATTERN, ROOM);
+    if (mprotect(message_room, ROOM, PROT_READ) != 0) fail("read only");
+    run(&c);
+    if (mprotect(message_room, ROOM, PROT_READ | PROT_WRITE) != 0) fail("read and write");
+    return c;
+}
+
+static unsigned number(const uint8_t *octets, size_t at) {
+    return octets[2 * at] * 256u + octets[2 * at + 1];
+}
+
+/* The room holds the pattern but for `len` octets where the buffer stands. */
+static int rest_stays(const uint8_t *room, const uint8_t *buffer, size_t len) {
+    for (const uint8_t *at = room; at < room + ROOM; at++)
+        if (*at != PATTERN && (at < buffer || at >= buffer + len)) return 0;
+    return 1;
+}
+
+static void check_call(const char *name, const struct call *c, const unsigned five[5], size_t written) {
+    int same = c->code == five[0];
+    for (size_t i = 0; i < 5; i++) same = same && number(c->five, i) == five[i];
+    check(same, name, c->masks ? "mask: other five numbers" : "judge: other five numbers");
+    check(rest_stays(out_room, c->out, c->code == WOK_ACCEPTED ? written : 0), name, "a write outside the table or copy");
+    check(rest_stays(five_room, c->five, WOK_FIVE_OCTETS), name, "a write outside the five numbers");
+}
+
+static void judge_exact(const char *name, uint32_t kind, const uint8_t *message, size_t len, const unsigned five[5], int at_end) {
+    static const unsigned table_short[5] = {WOK_TABLE_SHORT};
+    struct call c = on_exact(0, kind, message, len, WOK_TABLE_OCTETS, at_end);
+    check_call(name, &c, five, WOK_TABLE_OCTETS);
+    if (c.code != WOK_ACCEPTED) return;
+    size_t used = 2 * number(c.out, WOK_HEADER_NUMBERS - 1);
+    check(used == 2 * (WOK_HEADER_NUMBERS + WOK_ROW_NUMBERS * number(c.out, 0)), name, "numbers used do not match the rows");
+    check(rest_stays(out_room, c.out, used), name, "a write past the numbers used");
+    if (used > WOK_TABLE_OCTETS) return;
+    c = on_exact(0, kind, message, len, used, at_end);
+    check_call(name, &c, five, used);
+    c = on_exact(0, kind, message, len, used - 1, at_end);
+    check_call(name, &c, table_short, 0);
+}
+
+static void mask_exact(const char *name, uint32_t kind, const uint8_t *message, size_t len, const unsigned five[5], int at_end) {
+    static const unsigned accepted[5], copy_short[5] = {WOK_COPY_SHORT};
+    int copied = five[0] == WOK_ACCEPTED || five[0] >= WOK_TABLE_SHORT;
+    struct call c = on_exact(1, kind, message, len, len, at_end);
+    check_call(name, &c, copied ? accepted : five, len);
+    if (!copied) return;
+    c = on_exact(1, kind, message, len, len - 1, at_end);
+    check_call(name, &c, copy_short, 0);
+}
+
+static void try_message(const char *name, uint32_t kind, const uint8_t *message, size_t len, const unsigned five[5]) {
+    for (int at_end = 1; at_end >= 0; at_end--) {
+        judge_exact(name, kind, message, len, five, at_end);
+        mask_exact(name, kind, message, len, five, at_end);
+    }
+}
+
+static size_t read_sample(const char *name, uint8_t *message, size_t room) {
+    char path[128];
+    unsigned octet;
+    size_t len = 0;
+    snprintf(path, sizeof path, "samples/%s.hex", name);
+    FILE *file = fopen(path, "r");
+    if (file == NULL) fail(path);
+    while (len < room && fscanf(file, "%2x", &octet) == 1) message[len++] = (uint8_t)octet;
+    check(feof(file) && len > 0, name, "not read to its end");
+    fclose(file);
+    return len;
+}
+
+static unsigned try_samples(void) {
+    static uint8_t message[WOK_LARGEST_MESSAGE];
+    char line[256], name[64];
+    unsigned kind, five[5], samples = 0;
+    FILE *file = fopen("samples/expected.txt", "r");
+    if (file == NULL) fail("samples/expected.txt");
+    while (fgets(line, sizeof line, file) != NULL) {
+        if (line[0] == '#' || line[0] == '\n') continue;
+        int fields = sscanf(line, "%63s %u %u %u %u %u %u", name, &kind, &five[0], &five[1], &five[2], &five[3], &five[4]);
+        check(fields == 7, line, "not seven fields");
+        if (fields != 7) continue;
+        try_message(name, kind, message, read_sample(name, message, sizeof message), five);
+        samples++;
+    }
+    fclose(file);
+    return samples;
+}
+
+/* A head and then elements of type 200 without a value, up to the length; octets that are left over at the end are the last one's. */
+static void try_built(const char *name, const uint8_t *head, size_t head_len, size_t len, const unsigned five[5]) {
+    static uint8_t message[WOK_LARGEST_MESSAGE + 1];
+    static const uint8_t empty[4] = {200, 0, 0, 0};
+    memcpy(message, head, head_len);
+    size_t at = head_len;
+    for (; at + 4 <= len; at += 4) memcpy(message + at, empty, 4);
+    if (at < len) {
+        message[at - 2] = (uint8_t)(len - at);
+        memset(message + at, 1, len - at);
+    }
+    try_message(name, WOK_KIND_S11, message, len, five);
+}
+
+static void try_all_built(void) {
+    static const unsigned accepted[5], bad_size[5] = {WOK_BAD_SIZE};
+    static const unsigned no_recovery[5] = {WOK_MANDATORY_MISSING, WOK_CAUSE_MANDATORY_IE_MISSING, 0, 3, 0};
+    static const uint8_t full[] = {0x40, 1, 0x0F, 0xFC, 0, 0, 1, 0};
+    static const uint8_t most_rows[] = {0x40, 1, 0x0F, 0xF9, 0, 0, 1, 0, 3, 0, 1, 0, 7};
+    static const uint8_t context[] = {0x48, 66, 0x0F, 0xFC, 0, 0, 0, 1, 0, 0, 1, 0, 93, 0x0F, 0xF0, 0, 73, 0, 1, 0, 5};
+    static const uint8_t small[] = {0x40, 1, 1, 4, 0, 0, 1, 0};
+    static const uint8_t small_context[] = {0x48, 66, 1, 4, 0, 0, 0, 1, 0, 0, 1, 0, 93, 0, 0xF8, 0, 73, 0, 1, 0, 5};
+    static const uint8_t over_small[] = {0x40, 1, 1, 5, 0, 0, 1, 0, 3, 0, 1, 0, 7};
+    try_built("1,022 elements", full, sizeof full, 4096, no_recovery);
+    try_built("1,021 rows", most_rows, sizeof most_rows, 4093, accepted);
+    try_built("a full bearer context", context, sizeof context, 4096, accepted);
+    try_built("264 octets", small, sizeof small, 264, no_recovery);
+    try_built("a bearer context in 264 octets", small_context, sizeof small_context, 264, accepted);
+    try_built("265 octets", over_small, sizeof over_small, 265, accepted);
+    try_built("4,097 octets", full, sizeof full, 4097, bad_size);
+    try_message("empty", WOK_KIND_S11, full, 0, bad_size);
+}
+
+/* A NULL with length 0 for each pointer in turn, on a good message. */
+static void try_nulls(void) {
+    static const uint8_t echo[] = {0x40, 1, 0, 9, 0, 0, 1, 0, 3, 0, 1, 0, 7};
+    static uint8_t out[WOK_TABLE_OCTETS], five[WOK_FIVE_OCTETS];
+    static const uint16_t out_short[2] = {WOK_TABLE_SHORT, WOK_COPY_SHORT};
+    for (int masks = 0; masks < 2; masks++) {
+        struct call c = {masks, WOK_KIND_S11, NULL, 0, out, sizeof out, five, sizeof five, 0, 0, 0, 0};
+        run(&c);
+        check(c.code == WOK_BAD_SIZE && number(five, 0) == WOK_BAD_SIZE, "NULL", "message");
+        c = (struct call){masks, WOK_KIND_S11, echo, sizeof echo, NULL, 0, five, sizeof five, 0, 0, 0, 0};
+        run(&c);
+        check(c.code == out_short[masks] && number(five, 0) == out_short[masks], "NULL", "table or copy");
+        c = (struct call){masks, WOK_KIND_S11, echo, sizeof echo, out, sizeof out, NULL, 0, 0, 0, 0, 0};
+        run(&c);
+        check(c.code == WOK_ACCEPTED, "NULL", "five");
+        c = (struct call){masks, WOK_KIND_S11, NULL, 0, NULL, 0, NULL, 0, 0, 0, 0, 0};
+        run(&c);
+        check(c.code == WOK_BAD_SIZE, "NULL", "all");
+    }
+}
+
+static void print_stack(int larger, const char *which) {
+    printf("stack: %zu octets for judge, %zu octets for mask", most_used[larger][0], most_used[larger][1]);
+    printf(" (%s; written: %zu, %zu)\n", which, most_written[larger][0], most_written[larger][1]);
+}
+
+int main(void) {
+    stack = guarded(STACK_OCTETS);
+    message_room = guarded(ROOM);
+    out_room = guarded(ROOM);
+    five_room = guarded(ROOM);
+    unsigned samples = try_samples();
+    check(samples > 30, "samples", "too few");
+    try_all_built();
+    try_nulls();
+    check(least_left >= LEAST_LEFT, "stack", "too little is left");
+    printf("%u samples\n", samples);
+    print_stack(0, "messages of up to 264 octets");
+    print_stack(1, "larger messages");
+    printf("stack: %zu of %u octets never written\n", least_left, STACK_OCTETS);
+    printf("%u passed, %u failed\n", passed, failed);
+    return failed != 0;
+}

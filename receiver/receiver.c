@@ -1,0 +1,174 @@
+/*
+ * A receiver of GTPv2-C over UDP and IPv4: receiver [--answer] [PORT1 PORT2 PORT3]
+ *
+ * One port a kind, S11, S4 and S5/S8; 0, and no ports at all, let the system choose. The first line names the ports. Every datagram is
+ * judged and masked; a line of counts comes every second and, on SIGTERM or SIGINT, a last one:
+ *   counts|total datagrams N judge (by code, 0 to 13) mask (by code, 0 to 13) copy (octets of the last masked copy)
+ * With --answer each datagram is answered by the five numbers of the judge and of the mask. This is for tests, so the receiver then
+ * listens on loopback only.
+ */
+#define _POSIX_C_SOURCE 200809L
+
+#include <arpa/inet.h>
+#include <errno.h>
+#include <netinet/in.h>
+#include <poll.h>
+#include <pthread.h>
+#include <signal.h>
+#include <stdio.h>
+#include <stdlib.h>
+#include <string.h>
+#include <sys/socket.h>
+#include <time.h>
+
+#include "stack.h"
+#include "wokshimmer.h"
+
+#define KINDS 3
+#define CODES 14
+#define STOP_CHECK_MS 100
+
+struct counts {
+    unsigned long datagrams;
+    unsigned long judge[CODES];
+    unsigned long mask[CODES];
+    size_t copy_len;
+};
+
+/* One octet more than the largest message: a longer datagram, cut to this, is still refused for its size. */
+static uint8_t message[WOK_LARGEST_MESSAGE + 1];
+static uint8_t table[WOK_TABLE_OCTETS];
+/* A refused message leaves the copy as it was, so this is always the last one made. */
+static uint8_t copy[WOK_LARGEST_MESSAGE];
+static uint8_t answer[2 * WOK_FIVE_OCTETS];
+
+static int answers;
+static struct pollfd ports[KINDS];
+
+/* Both are shared by the two threads, under the lock. */
+static pthread_mutex_t lock = PTHREAD_MUTEX_INITIALIZER;
+static struct counts counts;
+static int stopped;
+
+static void fail(const char *what) {
+    perror(what);
+    exit(1);
+}
+
+static void count(uint16_t judged, uint16_t masked, size_t message_len) {
+    pthread_mutex_lock(&lock);
+    counts.datagrams++;
+    if (judged < CODES) counts.judge[judged]++;
+    if (masked < CODES) counts.mask[masked]++;
+    if (masked == WOK_ACCEPTED) counts.copy_len = message_len;
+    pthread_mutex_unlock(&lock);
+}
+
+static void take(int port, uint32_t kind) {
+    struct sockaddr_in sender;
+    socklen_t sender_len = sizeof sender;
+    ssize_t received = recvfrom(port, message, sizeof message, MSG_DONTWAIT, (struct sockaddr *)&sender, &sender_len);
+    if (received < 0) return; /* such as a datagram with a bad checksum */
+    size_t len = (size_t)received;
+    uint16_t judged = wok_judge(kind, message, len, table, sizeof table, answer, WOK_FIVE_OCTETS);
+    uint16_t masked = wok_mask(kind, message, len, copy, sizeof copy, answer + WOK_FIVE_OCTETS, WOK_FIVE_OCTETS);
+    count(judged, masked, len);
+    /* An answer that cannot be sent is the sender's loss. */
+    if (answers) (void)sendto(port, answer, sizeof answer, MSG_DONTWAIT, (struct sockaddr *)&sender, sender_len);
+}
+
+static int is_stopped(void) {
+    pthread_mutex_lock(&lock);
+    int is = stopped;
+    pthread_mutex_unlock(&lock);
+    return is;
+}
+
+static void *receive(void *unused) {
+    (void)unused;
+    while (!is_stopped()) {
+        if (poll(ports, KINDS, STOP_CHECK_MS) <= 0) continue;
+        for (int i = 0; i < KINDS; i++)
+            if (ports[i].revents) take(ports[i].fd, WOK_KIND_S11 + (uint32_t)i);
+    }
+    return NULL;
+}
+
+static void print_counts(const char *name) {
+    pthread_mutex_lock(&lock);
+    struct counts now = counts;
+    pthread_mutex_unlock(&lock);
+    printf("%s datagrams %lu judge", name, now.datagrams);
+    for (int code = 0; code < CODES; code++) printf(" %lu", now.judge[code]);
+    printf(" mask");
+    for (int code = 0; code < CODES; code++) printf(" %lu", now.mask[code]);
+    printf(" copy %lu\n", (unsigned long)now.copy_len);
+    fflush(stdout);
+}
+
+/* Opens a port and answers its number. */
+static unsigned open_port(struct pollfd *port, uint16_t number) {
+    struct sockaddr_in own;
+    socklen_t own_len = sizeof own;
+    memset(&own, 0, sizeof own);
+    own.sin_family = AF_INET;
+    own.sin_port = htons(number);
+    own.sin_addr.s_addr = htonl(answers ? INADDR_LOOPBACK : INADDR_ANY);
+    port->fd = socket(AF_INET, SOCK_DGRAM, 0);
+    port->events = POLLIN;
+    if (port->fd < 0) fail("socket");
+    if (bind(port->fd, (struct sockaddr *)&own, sizeof own) != 0) fail("bind");
+    if (getsockname(port->fd, (struct sockaddr *)&own, &own_len) != 0) fail("getsockname");
+    return ntohs(own.sin_port);
+}
+
+static pthread_t start(void) {
+    pthread_t thread;
+    pthread_attr_t small;
+    if (pthread_attr_init(&small) != 0 || (errno = pthread_attr_setstacksize(&small, STACK_OCTETS)) != 0) fail("stack size");
+    if ((errno = pthread_create(&thread, &small, receive, NULL)) != 0) fail("thread");
+    pthread_attr_destroy(&small);
+    return thread;
+}
+
+static uint16_t port_number(const char *text) {
+    char *end;
+    errno = 0;
+    unsigned long number = strtoul(text, &end, 10);
+    if (*text < '0' || *text > '9' || *end || errno || number > 65535) {
+        fprintf(stderr, "no port: %s\n", text);
+        exit(2);
+    }
+    return (uint16_t)number;
+}
+
+int main(int argc, char **argv) {
+    answers = argc > 1 && strcmp(argv[1], "--answer") == 0;
+    char **numbers = argv + 1 + answers;
+    int given = argc - 1 - answers;
+    if (given != 0 && given != KINDS) {
+        fprintf(stderr, "usage: receiver [--answer] [PORT1 PORT2 PORT3]\n");
+        return 2;
+    }
+    unsigned opened[KINDS];
+    for (int i = 0; i < KINDS; i++) opened[i] = open_port(&ports[i], given ? port_number(numbers[i]) : 0);
+
+    /* Signals are awaited here and never arrive on the small stack. */
+    sigset_t ends;
+    sigemptyset(&ends);
+    sigaddset(&ends, SIGTERM);
+    sigaddset(&ends, SIGINT);
+    if ((errno = pthread_sigmask(SIG_BLOCK, &ends, NULL)) != 0) fail("signals");
+    pthread_t receiving = start();
+    printf("ports %u %u %u\n", opened[0], opened[1], opened[2]);
+    fflush(stdout);
+
+    struct timespec second = {1, 0};
+    while (sigtimedwait(&ends, NULL, &second) < 0) print_counts("counts");
+    pthread_mutex_lock(&lock);
+    stopped = 1;
+    pthread_mutex_unlock(&lock);
+    pthread_join(receiving, NULL);
+    print_counts("total");
+    return 0;
+}
