@@ -47,7 +47,7 @@ pub extern "C" fn wok_judge(kind: u32, message: &[u8], table: &mut [u8], five: &
 pub extern "C" fn wok_mask(kind: u32, message: &[u8], copy: &mut [u8], five: &mut [u8]) -> u16
     ensures { λ r. ⌜ MaskedOctets kind (now (message .entry)) (now (copy .entry)) (now (five .entry)) r (now (copy .exit)) (now (five .exit)) ⌝ }
 {
-    let v = masking::mask(kind, message, copy);
-    octets::put_five(v, five);
-    v.code
+    let verdict = masking::mask(kind, message, copy);
+    octets::put_five(verdict, five);
+    verdict.code
 }
