@@ -2,12 +2,15 @@
 // to see subscribers, as any further mode does, 1 with it, and 2 writes the masked copy raw.
 ghost use mathlib.Core.Path.{_≡_};
 ghost use lib.ListN.{length};
-use names::text::dump;
-use names::text::number;
-use names::text::say;
 use rules::Verdict;
+use text::dump;
+use text::number;
+use text::say;
 
+mod names;
+mod refusals;
 mod rows;
+mod text;
 
 // Room for the table of any message. The contract gives only the length, which lending it needs.
 fn table_room() -> [u16; 6136]
@@ -44,13 +47,13 @@ fn titled(kind: u32, shown: &[u8]) {
 fn unread(kind: u32, size: usize, v: Verdict) {
     say(b"Message");
     first_line(kind, size);
-    names::refusals::refusal(v.code, v.cause, v.place, v.typ, v.inst);
+    refusals::refusal(v.code, v.cause, v.place, v.typ, v.inst);
 }
 
 // A message that was read, and lacks what it must have.
 fn lacking(kind: u32, v: Verdict, shown: &[u8]) {
     titled(kind, shown);
-    names::refusals::refusal(v.code, v.cause, v.place, v.typ, v.inst);
+    refusals::refusal(v.code, v.cause, v.place, v.typ, v.inst);
     dump(shown);
 }
 

@@ -1,11 +1,11 @@
 // The table in aligned lines, one a row, with the values that the viewer may see.
 ghost use Prim.Native.Nat.{_≤_, _<_};
-use names::element;
-use names::standing;
-use names::text::gap;
-use names::text::number;
-use names::text::say;
-use names::text::value;
+use crate::names::element;
+use crate::names::standing;
+use crate::text::gap;
+use crate::text::number;
+use crate::text::say;
+use crate::text::value;
 
 fn wide(x: u16) -> usize
     ensures { λ r. ⌜ r < 65536 ⌝ }

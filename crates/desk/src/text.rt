@@ -2,7 +2,7 @@
 ghost use Prim.Native.Nat.{_≤_, _<_};
 use libc::STDOUT_FILENO;
 
-pub fn say(words: &[u8]) {
+pub(crate) fn say(words: &[u8]) {
     io::write_all(STDOUT_FILENO, words);
 }
 
@@ -11,7 +11,7 @@ fn blank() {
     say(b" ");
 }
 
-pub fn end_line() {
+pub(crate) fn end_line() {
     say(b"\n");
 }
 
@@ -24,14 +24,14 @@ fn blanks(count: usize) {
 }
 
 // The blanks that fill a column after, or before, so many octets of text.
-pub fn gap(width: usize, used: usize) {
+pub(crate) fn gap(width: usize, used: usize) {
     if used < width {
         blanks(width - used);
     }
 }
 
 // Words at the left of a column.
-pub fn column(words: &[u8], width: usize) {
+pub(crate) fn column(words: &[u8], width: usize) {
     say(words);
     gap(width, words.len());
 }
@@ -54,7 +54,7 @@ fn digits(n: usize) -> usize {
 }
 
 // A number at the right of a column.
-pub fn number(n: usize, width: usize) {
+pub(crate) fn number(n: usize, width: usize) {
     gap(width, digits(n));
     io::print_decimal(STDOUT_FILENO, n as u64);
 }
@@ -91,7 +91,7 @@ fn octets(part: &[u8], most: usize) {
 }
 
 // The octets of a part, 32 at most, so that a row stays one line.
-pub fn value(part: &[u8]) {
+pub(crate) fn value(part: &[u8]) {
     octets(part, 32);
     if 32 < part.len() {
         say(b"..");
@@ -112,7 +112,7 @@ fn lead(at: usize) {
 }
 
 // Octets in lines of 16.
-pub fn dump(part: &[u8]) {
+pub(crate) fn dump(part: &[u8]) {
     let mut at = 0;
     while at < part.len() {
         lead(at);

@@ -1,12 +1,9 @@
 // Names by number: interface kinds, messages, and elements as TS 29.274 Table 8.1-1 has them. A name of over 31 octets is given by its
 // abbreviation in that table. 201 has its number from document 01 alone.
-use text::column;
-use text::say;
+use crate::text::column;
+use crate::text::say;
 
-pub mod refusals;
-pub mod text;
-
-pub fn kind(kind: u32) {
+pub(crate) fn kind(kind: u32) {
     match kind {
         1 => say(b"S11"),
         2 => say(b"S4"),
@@ -15,7 +12,7 @@ pub fn kind(kind: u32) {
     }
 }
 
-pub fn message(typ: u8) {
+pub(crate) fn message(typ: u8) {
     match typ {
         1 => say(b"Echo Request"),
         2 => say(b"Echo Response"),
@@ -30,7 +27,7 @@ pub fn message(typ: u8) {
     }
 }
 
-pub fn cause(cause: u16) {
+pub(crate) fn cause(cause: u16) {
     match cause {
         67 => say(b"; cause 67 Invalid length"),
         70 => say(b"; cause 70 Mandatory IE missing"),
@@ -38,7 +35,7 @@ pub fn cause(cause: u16) {
     }
 }
 
-pub fn standing(standing: u16, width: usize) {
+pub(crate) fn standing(standing: u16, width: usize) {
     match standing {
         0 => column(b"kept", width),
         1 => column(b"not listed", width),
@@ -49,7 +46,7 @@ pub fn standing(standing: u16, width: usize) {
 
 // An element's name in a column; a number that no listing has is not named. Ten to a function, since a proof's time grows with
 // the texts that one function lends.
-pub fn element(typ: u16, width: usize) {
+pub(crate) fn element(typ: u16, width: usize) {
     match typ {
         1 => column(b"IMSI", width),
         2 => column(b"Cause", width),

@@ -1,8 +1,8 @@
 -- `text::blanks` is safe and ends: the measure is the blanks that are left. Assumes nothing.
 use Prim.Native.Nat.{_-_}
 use borrow.Author.Needs.{needs}
-use Rattle.names.proofs.text.blanks.Statement.{statement}
-use Rattle.names.proofs.text.blanks.Tie as tie
+use Rattle.desk.proofs.text.blanks.Statement.{statement}
+use Rattle.desk.proofs.text.blanks.Tie as tie
 
 abbrev Inv-loop : tie.InvT-loop
 Inv-loop count n₀ n = Unit {0}

@@ -1,21 +1,21 @@
--- `text::dump` is safe and ends: the measure is what is left of the part. Assumes nothing.
-use Prim.Native.Nat.{_-_}
+-- `text::octets` is safe and ends: it counts no further than the part reaches. Assumes nothing.
+use Prim.Native.Nat.{_-_, _≤_}
 use borrow.Author.Needs.{needs}
 use lib.ListN.{length}
-use Rattle.names.proofs.text.dump.Statement.{statement}
-use Rattle.names.proofs.text.dump.Tie as tie
+use Rattle.desk.proofs.text.octets.Statement.{statement}
+use Rattle.desk.proofs.text.octets.Tie as tie
 
 abbrev Inv-loop : tie.InvT-loop
-Inv-loop part at₀ at = Unit {0}
+Inv-loop part most count at₀ at = count ≤ length part
 
 abbrev μ-loop : tie.MeasureT-loop
-μ-loop part at₀ at = length part - at
+μ-loop part most count at₀ at = count - at
+
+least-requires : tie.Need-least-requires Inv-loop μ-loop
+least-requires c κs = search needs
 
 loop-holds : tie.Need-loop-holds Inv-loop μ-loop
 loop-holds c = search needs
-
-lead-requires : tie.Need-lead-requires Inv-loop μ-loop
-lead-requires c κs = search needs
 
 shared-slice-read-octet : tie.Need-shared-slice-read-octet Inv-loop μ-loop
 shared-slice-read-octet c = search needs
@@ -32,24 +32,20 @@ loop-less c = search needs
 loop-again : tie.Need-loop-again Inv-loop μ-loop
 loop-again c = search needs
 
-end-line-requires : tie.Need-end-line-requires Inv-loop μ-loop
-end-line-requires c κs = search needs
-
 returns : tie.Need-returns Inv-loop μ-loop
 returns c = search needs
 
-pub dump-spec : {M : Type 1} → statement M
-dump-spec =
+pub octets-spec : {M : Type 1} → statement M
+octets-spec =
     tie.close
     (tie.spec
     Inv-loop
     μ-loop
+    least-requires
     loop-holds
-    lead-requires
     shared-slice-read-octet
     octet-requires
     add-at
     loop-less
     loop-again
-    end-line-requires
     returns)

@@ -1,6 +1,6 @@
 // A refusal in words: what, where, which element, and the cause to reply with.
-use crate::cause;
-use crate::element;
+use crate::names::cause;
+use crate::names::element;
 use crate::text::number;
 use crate::text::say;
 
@@ -65,7 +65,7 @@ fn details(code: u16, octet: u16, typ: u16, inst: u16) {
     }
 }
 
-pub fn refusal(code: u16, reply: u16, octet: u16, typ: u16, inst: u16) {
+pub(crate) fn refusal(code: u16, reply: u16, octet: u16, typ: u16, inst: u16) {
     say(b"refused by check ");
     number(code as usize, 0);
     say(b": ");
