@@ -17,7 +17,8 @@
 #define ROOM (4 * PAGE)
 #define PATTERN 0xA5u
 #define SMALL_MESSAGE 264u
-#define LEAST_LEFT 1024u /* octets of the stack that no call may write */
+#define LEAST_LEFT 512u /* octets of the stack that no call may write */
+#define MOST_A_LEVEL 512u
 
 struct call {
     int masks;
@@ -210,12 +211,14 @@ static void try_all_built(void) {
     static const uint8_t small[] = {0x40, 1, 1, 4, 0, 0, 1, 0};
     static const uint8_t small_context[] = {0x48, 66, 1, 4, 0, 0, 0, 1, 0, 0, 1, 0, 93, 0, 0xF8, 0, 73, 0, 1, 0, 5};
     static const uint8_t over_small[] = {0x40, 1, 1, 5, 0, 0, 1, 0, 3, 0, 1, 0, 7};
+    static uint8_t late_rows[8 + 5 + 4 + 3000] = {0x40, 1, 0x0F, 0xF9, 0, 0, 1, 0, 3, 0, 1, 0, 7, 200, 0x0B, 0xB8, 0};
     try_built("1,022 elements", full, sizeof full, 4096, no_recovery);
     try_built("1,021 rows", most_rows, sizeof most_rows, 4093, accepted);
     try_built("a full bearer context", context, sizeof context, 4096, accepted);
     try_built("264 octets", small, sizeof small, 264, no_recovery);
     try_built("a bearer context in 264 octets", small_context, sizeof small_context, 264, accepted);
     try_built("265 octets", over_small, sizeof over_small, 265, accepted);
+    try_built("rows after a long value", late_rows, sizeof late_rows, 4093, accepted);
     try_built("4,097 octets", full, sizeof full, 4097, bad_size);
     try_message("empty", WOK_KIND_S11, full, 0, bad_size);
 }
@@ -241,6 +244,17 @@ static void try_nulls(void) {
     }
 }
 
+/* What one level of the listings takes: a message with a kept group, against one without. */
+static size_t level_octets(int masks) {
+    static const uint8_t without[] = {0x48, 66, 0, 8, 0, 0, 0, 1, 0, 0, 2, 0};
+    static const uint8_t with[] = {0x48, 66, 0, 17, 0, 0, 0, 1, 0, 0, 2, 0, 93, 0, 5, 0, 73, 0, 1, 0, 5};
+    size_t out_len = masks ? sizeof with : WOK_TABLE_OCTETS;
+    size_t one = on_exact(masks, WOK_KIND_S11, without, sizeof without, out_len, 1).used;
+    size_t two = on_exact(masks, WOK_KIND_S11, with, sizeof with, out_len, 1).used;
+    check(one < two && two - one <= MOST_A_LEVEL, masks ? "mask" : "judge", "a level takes nothing, or too much");
+    return two - one;
+}
+
 static void print_stack(int larger, const char *which) {
     printf("stack: %zu octets for judge, %zu octets for mask", most_used[larger][0], most_used[larger][1]);
     printf(" (%s; written: %zu, %zu)\n", which, most_written[larger][0], most_written[larger][1]);
@@ -259,6 +273,7 @@ int main(void) {
     printf("%u samples\n", samples);
     print_stack(0, "messages of up to 264 octets");
     print_stack(1, "larger messages");
+    printf("stack: a level of the listings takes %zu octets in judge, %zu in mask\n", level_octets(0), level_octets(1));
     printf("stack: %zu of %u octets never written\n", least_left, STACK_OCTETS);
     printf("%u passed, %u failed\n", passed, failed);
     return failed != 0;

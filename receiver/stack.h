@@ -1,8 +1,8 @@
 /*
- * The stack of the thread that judges and masks, in octets. A call of wok_mask takes 14,392 of them and one of wok_judge 14,152 (guard
+ * The stack of the thread that judges and masks, in octets. A call of wok_mask takes 14,896 of them and one of wok_judge 14,816 (guard
  * measures this), whatever the message's length. The thread itself takes about 4,400: glibc keeps its record of the thread and the
  * thread-local data at the top of the stack. So 16 KiB, the least that POSIX threads allow here, is too little with glibc; 20 KiB
- * leaves about 1,690 octets.
+ * leaves about 1,180 octets.
  */
 #ifndef STACK_H
 #define STACK_H

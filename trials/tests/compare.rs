@@ -66,20 +66,28 @@ fn at_the_limits() {
     });
 }
 
+/// An Echo Request with one value of `first` octets and then so many elements without one, and `cut` octets that are none.
+fn rows_after(first: usize, count: usize, cut: usize) -> Case {
+    let mut message = vec![0x40, 1, 0, 0, 0, 0, 1, 0, 3, (first / 256) as u8, (first % 256) as u8, 0];
+    message.extend(vec![9; first]);
+    for _ in 1..count {
+        message.extend([3, 0, 0, 0]);
+    }
+    message.extend(vec![9; cut]);
+    let length = message.len() - 4;
+    message[2..4].copy_from_slice(&(length as u16).to_be_bytes());
+    Case { kind: 1, message }
+}
+
 #[test]
 fn around_the_small_scratch() {
-    // Messages of 200 to 330 octets: those up to 264 are read into the small scratch, longer ones into the large one.
-    for count in 40..80 {
-        for cut in 0..4 {
-            let mut message = vec![0x40, 1, 0, 0, 0, 0, 1, 0];
-            for _ in 0..count {
-                message.extend([3, 0, 0, 0]);
+    // Rows around 64, and around the 264 octets that cannot have more: read once into the small scratch, once into the large one at a
+    // guess by the first siblings, or into both where a long value spoils the guess.
+    for first in [0, 1, 40, 600, 3_000] {
+        for count in 40..80 {
+            for cut in 0..4 {
+                assert_eq!(all_lengths(&rows_after(first, count, cut)), None);
             }
-            message.extend(vec![9; cut]);
-            let length = message.len() - 4;
-            message[2..4].copy_from_slice(&(length as u16).to_be_bytes());
-            let case = Case { kind: 1, message };
-            assert_eq!(all_lengths(&case), None);
         }
     }
 }

@@ -1,6 +1,5 @@
 -- The verdict on a reading, check by check, and that it is the judge's. Assumes nothing.
 --     given-refused, given-full, given-rest   by 1 to 9; by 10; by 11, by 12 or acceptance
---     few       a message's rows are at most 1,022
 --     decided   the verdict on its reading is the judge's
 use mathlib.Core.Path.{_≡_, refl, sym, _∙_}
 use mathlib.Core.Bool.{Bool, true, false, cond}
@@ -9,19 +8,20 @@ use Prim.Native.Nat.{ℕ, _≤_, _<_}
 use native.Mathlib.Omega.{arith}
 use native.Mathlib.Nat.{pos-of-ne-zero}
 use borrow.Author.Tests.{lt-ltb, le-ltb}
-use Rattle.rules.specs.Sizes.{mostRows, used}
+use Rattle.rules.specs.Sizes.{used}
 use Rattle.rules.specs.Listings.{book}
 use Rattle.rules.specs.Verdicts.{refused, check, refuses, first, framingChecks, tableChecks, judgeChecks, judgeVerdict}
 use Rattle.rules.specs.Answers.{readingOf, decisionOf, Read, Decided}
 use Rattle.rules.specs.declared.Verdict.{Verdict}
 use Rattle.rules.specs.declared.Reading.{Reading}
 use Rattle.rules.proofs.Checks.{first-append}
-use Rattle.rules.proofs.Header.{framed}
-use Rattle.rules.proofs.Rows.{few-rows}
 use Rattle.judging.specs.Judging.{given}
 
 pub refusing : (v : Verdict) → (v .code ≡ 0 → ⊥) → refuses v ≡ true
 refusing v n = lt-ltb 0 (v .code) (pos-of-ne-zero n)
+
+pub accepting : (v : Verdict) → v .code ≡ 0 → refuses v ≡ false
+accepting v e = rw e
 
 module _ (r : Reading) (room : ℕ) where
   pub given-refused : (r .refusal .code ≡ 0 → ⊥) → r .refusal ≡ given r room
@@ -47,14 +47,6 @@ module _ (k : ℕ) (m : List ℕ) where
   unfolding given readingOf first
   given-case room true e = rw e (sym (framing-first room ∙ rw e))
   given-case room false e = rw e (sym (framing-first room ∙ rw e))
-
-  pub few : readingOf book k m .rows ≤ mostRows
-  unfolding readingOf
-  few = go (refuses (first (framingChecks book k m))) refl
-    where
-      go : (c : Bool) → refuses (first (framingChecks book k m)) ≡ c → readingOf book k m .rows ≤ mostRows
-      go true e = rw e (omega arith)
-      go false e = let x = framed book k m e in rw (e, x .1 .1) (few-rows book k m (x .1 .0) (x .1 .1) (x .0 .most))
 
   pub decided : {rows rows′ : List ℕ} {room : ℕ} {r : Reading} → Read k m rows r rows′ → (v : Verdict) → v ≡ given r room
       → Decided k m rows room (record { verdict = v; rows = r .rows; kept = r .kept }) rows′

@@ -1,20 +1,20 @@
 -- What the parts of the judge ask for and answer. Assumes nothing.
-use Prim.Native.Nat.{ℕ, _-_, _*_, _≤_}
+use mathlib.Core.Path.{_≡_}
+use Prim.Native.Nat.{ℕ, _*_, _≤_}
+use mathlib.Core.Bool.{cond}
 use mathlib.Core.List.{List, [], _∷_}
 use lib.Dec.{ltb}
 use lib.ListN.{length, take}
-use Rattle.rules.specs.Sizes.{largestMessage, mostRows, headerNumbers, rowNumbers, used}
-use Rattle.rules.specs.Verdicts.{refused, check, first}
+use Rattle.rules.specs.Sizes.{mostRows, headerNumbers, rowNumbers, used}
+use Rattle.rules.specs.Table.{laid}
+use Rattle.rules.specs.Verdicts.{refused, check, refuses, first}
 use Rattle.rules.specs.declared.Verdict.{Verdict}
 use Rattle.rules.specs.declared.Reading.{Reading}
+use Rattle.rules.specs.declared.Decision.{Decision}
 
 -- the verdict on a reading, for a table of so many numbers
 unfoldable pub given : Reading → ℕ → Verdict
 given r room = first (r .refusal ∷ check (ltb room (used (r .rows))) (refused 10 0) ∷ r .short ∷ r .lack ∷ [])
-
--- a scratch of so many numbers has room for the rows of a message of so many octets: past the header, a row is four octets or more
-abbrev pub Enough : ℕ → ℕ → Type 0
-Enough octets numbers = octets ≤ largestMessage → rowNumbers * (octets - 8) ≤ 4 * numbers
 
 -- a table's numbers, from the rows and kept rows, and a scratch that has the rows at its start
 abbrev pub numbersOf : ℕ → ℕ → List ℕ → List ℕ
@@ -26,3 +26,12 @@ pub record Writable (n kept : ℕ) (rows table : List ℕ) : Type 0 where
   pub kept-few : kept ≤ n
   pub there : rowNumbers * n ≤ length rows
   pub room : used n ≤ length table
+
+-- on acceptance the table of a decision can be written
+abbrev pub Settles : Decision → List ℕ → List ℕ → Type 0
+Settles d rows table = d .verdict .code ≡ 0 → Writable (d .rows) (d .kept) rows table
+
+-- and is written then alone
+pub record Settled (d : Decision) (rows table : List ℕ) (answer : Verdict) (table′ : List ℕ) : Type 0 where
+  pub answers : answer ≡ d .verdict
+  pub table-left : table′ ≡ cond (refuses (d .verdict)) table (laid (numbersOf (d .rows) (d .kept) rows) table)

@@ -8,7 +8,7 @@ ghost use Rattle.rules.specs.Sizes.{mostRows, used};
 ghost use Rattle.rules.specs.Table.{laid};
 ghost use Rattle.rules.specs.Verdicts.{accepted, refused, first};
 ghost use Rattle.rules.specs.Answers.{Decided, Judged};
-ghost use Rattle.judging.specs.Judging.{given, Enough, numbersOf, Writable};
+ghost use Rattle.judging.specs.Judging.{given, numbersOf, Writable, Settles, Settled};
 use rules::Decision;
 use rules::Reading;
 use rules::Verdict;
@@ -110,12 +110,11 @@ fn write_table(rows: &[u16], n: usize, kept: usize, table: &mut [u16])
     copy_rows(rows, 6 * n, table);
 }
 
-// The judge, with a scratch that is large enough for the message.
-pub(crate) fn judge_with(kind: u32, message: &[u8], table: &mut [u16], rows: &mut [u16]) -> Verdict
-    requires { ⌜ Enough (length (now message)) (length (now rows)) ⌝ }
-    ensures { λ r. ⌜ Judged kind (now (message .entry)) (now (table .entry)) r (now (table .exit)) ⌝ }
+// On acceptance, the table from a scratch that holds its rows.
+pub(crate) fn settle(d: Decision, rows: &[u16], table: &mut [u16]) -> Verdict
+    requires { ⌜ Settles d (now rows) (now table) ⌝ }
+    ensures { λ r. ⌜ Settled d (now (rows .entry)) (now (table .entry)) r (now (table .exit)) ⌝ }
 {
-    let d = decide(kind, message, rows, table.len());
     let v = d.verdict;
     if v.code != 0 {
         return v;
@@ -124,28 +123,27 @@ pub(crate) fn judge_with(kind: u32, message: &[u8], table: &mut [u16], rows: &mu
     v
 }
 
-// Room for 64 rows.
-pub fn small() -> [u16; 384]
-    ensures { λ r. ⌜ 384 ≡ length r ⌝ }
+// The judge, with room for the rows of any message.
+pub(crate) fn judge_all(kind: u32, message: &[u8], table: &mut [u16]) -> Verdict
+    ensures { λ r. ⌜ Judged kind (now (message .entry)) (now (table .entry)) r (now (table .exit)) ⌝ }
 {
-    [0u16; 384]
+    let mut all = scratch::large();
+    let d = decide(kind, message, &mut all, table.len());
+    settle(d, &all, table)
 }
 
-// Room for 1,022 rows.
-pub fn large() -> [u16; 6132]
-    ensures { λ r. ⌜ 6132 ≡ length r ⌝ }
-{
-    [0u16; 6132]
-}
-
-// The verdict on a message; the table is written on acceptance alone. 264 octets have at most 64 rows.
+// The verdict on a message; the table is written on acceptance alone. Rows are counted also where the scratch is full, so that the count
+// says whether the small one holds them all.
 pub fn judge(kind: u32, message: &[u8], table: &mut [u16]) -> Verdict
     ensures { λ r. ⌜ Judged kind (now (message .entry)) (now (table .entry)) r (now (table .exit)) ⌝ }
 {
-    if message.len() <= 264 {
-        let mut rows = small();
-        return judge_with(kind, message, table, &mut rows);
+    if scratch::crowded(message) {
+        return judge_all(kind, message, table);
     }
-    let mut rows = large();
-    judge_with(kind, message, table, &mut rows)
+    let mut few = scratch::small();
+    let d = decide(kind, message, &mut few, table.len());
+    if 64 < d.rows {
+        return judge_all(kind, message, table);
+    }
+    settle(d, &few, table)
 }

@@ -6,19 +6,17 @@ use mathlib.Core.List.{List, [], _∷_, _++_}
 use Prim.Native.Nat.{ℕ, _+_, _*_, _/_, _%_, _≤_}
 use native.Mathlib.Omega.{arith}
 use lib.Dec.{ltb}
-use borrow.Author.Tests.{ltb-false}
-use lib.ListN.{length, length-append, replicate, length-replicate}
+use lib.ListN.{length, length-append}
 use Rattle.rules.specs.Sizes.{mostRows, used}
 use Rattle.rules.specs.Listings.{book}
 use Rattle.rules.specs.Standing.{Item, valuePlace}
 use Rattle.rules.specs.Table.{row, keptRows}
-use Rattle.rules.specs.Verdicts.{items, refuses, judgeVerdict}
+use Rattle.rules.specs.Verdicts.{items, refuses, framingChecks, tableChecks, judgeChecks, judgeVerdict}
 use Rattle.rules.specs.Octets.{five}
 use Rattle.rules.specs.Program.{digitAt, decimal, blanked, line, rowLines, textOf, acceptWord, refuseWord}
-use Rattle.rules.specs.Answers.{readRows, decisionOf, Decided}
 use Rattle.rules.specs.declared.Verdict.{Verdict}
-use Rattle.judging.proofs.Accepted.{ready}
-use Rattle.lines.proofs.Reports.{count-is}
+use Rattle.rules.proofs.Checks.{both-pass}
+use Rattle.rules.proofs.Readings.{few as few-rows, count-is}
 
 digit-length : (n power : ℕ) → length (digitAt n power) ≤ 1
 unfolding digitAt
@@ -60,16 +58,9 @@ lines-length [] = omega arith
 lines-length (i ∷ is) = omega (arith, length-append (line (row i)) (rowLines is), line-length i, lines-length is)
 
 module _ (k : ℕ) (m : List ℕ) where
-  -- the judge's decision on any scratch that is large enough says so
-  few-by : (scratch : List ℕ) → length scratch ≡ 6132 → refuses (judgeVerdict book k m (used mostRows)) ≡ false → length (items book k m) ≤ mostRows
-  unfolding decisionOf
-  few-by scratch n e =
-      let d : Decided k m scratch (used mostRows) (decisionOf book k m (used mostRows)) (readRows book k m scratch) = record { answers = refl; rows-left = refl } in
-      let q = ready k m d (λ l. omega (arith, n)) (omega (arith, ltb-false 0 (judgeVerdict book k m (used mostRows) .code) e)) in
-      rw (← count-is k m [] d q) (q .few)
-
   few : refuses (judgeVerdict book k m (used mostRows)) ≡ false → length (items book k m) ≤ mostRows
-  few = few-by (replicate {A = ℕ} 6132 0) (length-replicate {A = ℕ} 6132 0)
+  unfolding judgeChecks
+  few e = let p = both-pass (framingChecks book k m) (tableChecks book k m (used mostRows)) e .0 in rw (← count-is book k m p) (few-rows book k m)
 
   pub text-length : length (textOf book k m) ≤ 40000
   unfolding textOf

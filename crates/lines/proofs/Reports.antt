@@ -16,7 +16,6 @@ use Rattle.rules.specs.Octets.{five}
 use Rattle.rules.specs.Program.{blanked, rowLines, acceptWord, refuseWord, textOf, inputKind, inputMessage, Written}
 use Rattle.rules.specs.Answers.{Decided}
 use Rattle.rules.specs.declared.Decision.{Decision}
-use Rattle.judging.specs.Judging.{Enough}
 use Rattle.judging.proofs.Accepted.{Ready, ready, verdict-is, refused-is}
 use Rattle.wording.specs.Puts.{Puts}
 use Rattle.wording.proofs.Puts.{then-puts, puts-start, puts-same}

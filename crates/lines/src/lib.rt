@@ -65,7 +65,7 @@ fn row_lines(rows: &[u16], count: usize, at: usize, out: &mut [u8]) -> usize
 fn report(kind: u32, message: &[u8], out: &mut [u8]) -> usize
     ensures { λ r. ⌜ Reported kind (now (message .entry)) (now (out .entry)) r (now (out .exit)) ⌝ }
 {
-    let mut rows = judging::large();
+    let mut rows = scratch::large();
     let d = judging::decide(kind, message, &mut rows, 6136);
     let v = d.verdict;
     if v.code != 0 {

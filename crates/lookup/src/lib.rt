@@ -1,6 +1,7 @@
 // Reading a value: the desk's lookup and the plain lookup. A table may hold anything at all, so nothing in it is believed before it
 // is tested, and its 16-bit numbers are widened before they are summed.
 ghost use mathlib.Core.Path.{_≡_};
+ghost use mathlib.Core.Bool.{cond};
 ghost use Prim.Native.Nat.{_<_};
 ghost use lib.ListN.{length};
 ghost use Rattle.rules.specs.Values.{tableRows, cell, nowhere, rowSpan, deskSpan, isPlain, seekPlain, plainSpan, Stands};
@@ -98,19 +99,30 @@ fn is_plain(typ: u16, inst: u16, row: usize, table: &[u16]) -> bool
     number(row, 5, table) == 0
 }
 
+fn pick(hit: bool, yes: usize, no: usize) -> usize
+    ensures { λ r. ⌜ r ≡ cond hit yes no ⌝ }
+{
+    if hit {
+        return yes;
+    }
+    no
+}
+
 // The first such row, or how many rows there are.
 fn seek_plain(typ: u16, inst: u16, table: &[u16]) -> usize
     ensures { λ r. ⌜ r ≡ seekPlain (now (table .entry)) typ inst 0 (tableRows (now (table .entry))) ⌝ }
 {
     let count = rows(table);
+    let mut found = count;
     let mut row = 0;
     while row < count {
-        if is_plain(typ, inst, row, table) {
-            return row;
-        }
-        row += 1;
+        let hit = is_plain(typ, inst, row, table);
+        found = pick(hit, row, found);
+        // A hit ends the search.
+        let next = row + 1;
+        row = pick(hit, count, next);
     }
-    row
+    found
 }
 
 // Where its value stands in a message of so many octets. The first such row decides: no later one is tried.

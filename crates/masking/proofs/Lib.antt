@@ -4,4 +4,4 @@ pub mod Masks
 pub mod Opening
 pub mod Parts
 pub mod Rowed
-pub mod Scratch
+pub mod Settling

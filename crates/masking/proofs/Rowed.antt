@@ -11,21 +11,8 @@ use Rattle.rules.specs.Sizes.{rowNumbers}
 use Rattle.rules.specs.Standing.{Item}
 use Rattle.rules.specs.Table.{row, rowsOf, laid}
 use Rattle.rules.specs.Covered.{cleared, clearAll}
-use Rattle.rules.proofs.Rows.{noItem, nth, Every, every-at, Fits}
+use Rattle.rules.proofs.Rows.{rows-length, in-rows, noItem, nth, Every, every-at, Fits}
 use Rattle.masking.specs.Clearing.{number, clearedRow, clearedRows, Within}
-
-pub rows-length : (is : List Item) → length (rowsOf is) ≡ rowNumbers * length is
-unfolding rowsOf
-rows-length [] = refl
-rows-length (i ∷ is) = omega (arith, rows-length is)
-
-in-rows : (is : List Item) (r c : ℕ) → r < length is → c < rowNumbers → getD (rowsOf is) (rowNumbers * r + c) 0 ≡ getD (row (nth is r)) c 0
-unfolding rowsOf
-in-rows [] r c l h = absurd (omega arith)
-in-rows (i ∷ is) zero c l h = let e : rowNumbers * 0 + c ≡ c = omega arith in rw e (List·getD-append (row i) (rowsOf is) 0 c h)
-in-rows (i ∷ is) (suc r) c l h =
-    let e : rowNumbers * suc r + c ≡ length (row i) + (rowNumbers * r + c) = omega arith in
-    rw e (getD-append-add (row i) (rowsOf is) (rowNumbers * r + c) 0 ∙ in-rows is r c (omega arith) h)
 
 clear-snoc : (copy : List ℕ) (is : List Item) (i : Item) → clearAll copy (is ++ (i ∷ [])) ≡ cleared (clearAll copy is) i
 unfolding clearAll

@@ -7,7 +7,8 @@ ghost use Rattle.rules.specs.Covered.{openOctets, zeroed};
 ghost use Rattle.rules.specs.Answers.{Masked};
 ghost use Rattle.facts.specs.Facts.{facts};
 ghost use Rattle.masking.specs.Clearing.{clearedRow, clearedRows, RowWithin, Within};
-ghost use Rattle.masking.specs.Scratch.{Enough};
+ghost use Rattle.masking.specs.Settled.{Settles, Settled};
+use rules::Reading;
 use rules::Verdict;
 
 pub(crate) fn verdict(code: u16) -> Verdict
@@ -92,12 +93,11 @@ pub(crate) fn clear_rows(types: &[u8; 256], rows: &[u16], count: usize, copy: &m
     }
 }
 
-// The masker, with a scratch that has room for every row of the message.
-pub(crate) fn mask_with(kind: u32, message: &[u8], copy: &mut [u8], rows: &mut [u16]) -> Verdict
-    requires { ⌜ Enough (length (now message)) (length (now rows)) ⌝ }
-    ensures { λ r. ⌜ Masked kind (now (message .entry)) (now (copy .entry)) r (now (copy .exit)) ⌝ }
+// The masked copy by a reading, and a scratch that holds its rows.
+pub(crate) fn settle(r: Reading, rows: &[u16], message: &[u8], copy: &mut [u8]) -> Verdict
+    requires { ⌜ Settles r (now rows) (now message) ⌝ }
+    ensures { λ v. ⌜ Settled r (now (rows .entry)) (now (message .entry)) (now (copy .entry)) v (now (copy .exit)) ⌝ }
 {
-    let r = reading::read(kind, message, rows);
     let v = r.refusal;
     if v.code != 0 {
         return v;
@@ -111,28 +111,27 @@ pub(crate) fn mask_with(kind: u32, message: &[u8], copy: &mut [u8], rows: &mut [
     verdict(0)
 }
 
-// 64 rows.
-pub(crate) fn small() -> [u16; 384]
-    ensures { λ r. ⌜ length r ≡ 384 ⌝ }
+// The masker, with room for the rows of any message.
+pub(crate) fn mask_all(kind: u32, message: &[u8], copy: &mut [u8]) -> Verdict
+    ensures { λ r. ⌜ Masked kind (now (message .entry)) (now (copy .entry)) r (now (copy .exit)) ⌝ }
 {
-    [0u16; 384]
+    let mut all = scratch::large();
+    let r = reading::read(kind, message, &mut all);
+    settle(r, &all, message, copy)
 }
 
-// 1,022 rows.
-pub(crate) fn large() -> [u16; 6132]
-    ensures { λ r. ⌜ length r ≡ 6132 ⌝ }
-{
-    [0u16; 6132]
-}
-
-// The copy of a message with every covered octet 0; a refused message leaves the copy alone.
+// The copy of a message with every covered octet 0; a refused message leaves the copy alone. Rows are counted also where the scratch is full,
+// so that the count says whether the small one holds them all.
 pub fn mask(kind: u32, message: &[u8], copy: &mut [u8]) -> Verdict
     ensures { λ r. ⌜ Masked kind (now (message .entry)) (now (copy .entry)) r (now (copy .exit)) ⌝ }
 {
-    if message.len() <= 264 {
-        let mut rows = small();
-        return mask_with(kind, message, copy, &mut rows);
+    if scratch::crowded(message) {
+        return mask_all(kind, message, copy);
     }
-    let mut rows = large();
-    mask_with(kind, message, copy, &mut rows)
+    let mut few = scratch::small();
+    let r = reading::read(kind, message, &mut few);
+    if 64 < r.rows {
+        return mask_all(kind, message, copy);
+    }
+    settle(r, &few, message, copy)
 }

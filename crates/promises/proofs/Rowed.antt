@@ -13,26 +13,13 @@ use Rattle.rules.specs.Listings.{Book}
 use Rattle.rules.specs.Standing.{Item, kept}
 use Rattle.rules.specs.Table.{row, rowsOf, keptRows, header, tableOf}
 use Rattle.rules.specs.Values.{cell, rowParent, rowType, rowInstance, rowPlace, rowLength, rowStanding}
-use Rattle.rules.proofs.Rows.{Every, every-at, noItem, nth}
+use Rattle.rules.proofs.Rows.{rows-length, in-rows, Every, every-at, noItem, nth}
 use Rattle.promises.specs.Missing.{lineAt, levelBy, insideBy, insides}
 use Rattle.promises.proofs.Levels.{levelIn, Placed, Backward, backward-at}
-
-pub rows-length : (is : List Item) → length (rowsOf is) ≡ rowNumbers * length is
-unfolding rowsOf
-rows-length [] = refl
-rows-length (i ∷ is) = omega (arith, rows-length is)
 
 pub table-length : (is : List Item) → length (tableOf is) ≡ used (length is)
 unfolding tableOf header
 table-length is = omega (arith, rows-length is)
-
-in-rows : (is : List Item) (r c : ℕ) → r < length is → c < rowNumbers → getD (rowsOf is) (rowNumbers * r + c) 0 ≡ getD (row (nth is r)) c 0
-unfolding rowsOf
-in-rows [] r c l h = absurd (omega arith)
-in-rows (i ∷ is) zero c l h = let e : rowNumbers * 0 + c ≡ c = omega arith in rw e (List·getD-append (row i) (rowsOf is) 0 c h)
-in-rows (i ∷ is) (suc r) c l h =
-    let e : rowNumbers * suc r + c ≡ length (row i) + (rowNumbers * r + c) = omega arith in
-    rw e (getD-append-add (row i) (rowsOf is) (rowNumbers * r + c) 0 ∙ in-rows is r c (omega arith) h)
 
 pub row-is : (is : List Item) (r c : ℕ) → r < length is → c < rowNumbers → cell (tableOf is) r c ≡ getD (row (nth is r)) c 0
 unfolding tableOf header

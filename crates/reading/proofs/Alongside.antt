@@ -20,6 +20,7 @@ use Rattle.rules.specs.Verdicts.{accepted, refusedAt, check, refuses, first, sh
 use Rattle.rules.specs.declared.Verdict.{Verdict}
 use Rattle.rules.proofs.Checks.{first-append}
 use Rattle.rules.proofs.Walks.{Alike, cuts, wholes, alongside}
+use Rattle.rules.proofs.Rows.{rows-length}
 use Rattle.rules.proofs.Book.{book-sound}
 use Rattle.reading.specs.Gaps.{fault, packed, Gap, gapOne, gapShut, gapNumber, gapWalk}
 use Rattle.reading.specs.Held.{Held, held, one, shut, count, counted, shortOf, closed, putNumbers, putRow, number, scan}
@@ -79,11 +80,6 @@ rows-append : (is : List Item) (i : Item) → rowsOf (is ++ (i ∷ [])) ≡ rows
 unfolding rowsOf
 rows-append [] i = refl
 rows-append (j ∷ is) i = rw (rows-append is i)
-
-rows-length : (is : List Item) → length (rowsOf is) ≡ rowNumbers * length is
-unfolding rowsOf
-rows-length [] = refl
-rows-length (i ∷ is) = omega (arith, rows-length is)
 
 -- six stores one after another
 six : (l : List ℕ) (n a b c d e f : ℕ)

@@ -22,7 +22,8 @@ use Rattle.rules.specs.declared.Head.{Head}
 use Rattle.rules.proofs.Heads.{fits, value-length}
 use Rattle.rules.proofs.Mets.{made, made-number, met-walk, whole-met}
 use Rattle.rules.proofs.Standings.{marked-length}
-use Rattle.reading.specs.Gaps.{packed, lesser, lackOf, Gap, gapOne, gapShut, gapNumber, gapWalk}
+use Rattle.standings.specs.Faults.{lesser}
+use Rattle.reading.specs.Gaps.{packed, lackOf, Gap, gapOne, gapShut, gapNumber, gapWalk}
 use Rattle.reading.proofs.Lesser.{none-lesser, lesser-comm, lesser-assoc}
 use Rattle.reading.proofs.Marks.{lackWith, by-marks, by-rows, same-rows, with-mark}
 use Rattle.reading.proofs.Kept.{Local, local-tail, own-level, in-group, local-inside, local-after}

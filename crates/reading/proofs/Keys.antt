@@ -12,7 +12,7 @@ use Rattle.rules.specs.Types.{among}
 use Rattle.rules.specs.Listings.{Line, Book, anyInstance, lists, noLine, seek, listing}
 use Rattle.rules.specs.Sound.{sound}
 use Rattle.rules.proofs.Lines.{line-sound, sound-line}
-use Rattle.reading.specs.Data.{keyOf, never, keyOn, from, keysOf}
+use Rattle.listings.specs.Data.{keyOf, never, keyOn, from, keysOf}
 use Rattle.reading.proofs.Levels.{table-at}
 
 or-true : (a : Bool) → a || true ≡ true

@@ -15,7 +15,7 @@ use Rattle.rules.specs.Listings.{Line, book, noLine, listing}
 use Rattle.rules.specs.Verdicts.{isMandatory}
 use Rattle.rules.proofs.Lines.{SoundLine, sound-line, line-sound}
 use Rattle.rules.proofs.Book.{book-sound}
-use Rattle.reading.specs.Data.{never, keyOf, keyOn, from, keysOf}
+use Rattle.listings.specs.Data.{never, keyOf, keyOn, from, keysOf}
 use Rattle.reading.specs.Gaps.{fault, lackBy, lackOf}
 use Rattle.reading.proofs.Levels.{table-at}
 

@@ -8,7 +8,7 @@ use native.Mathlib.Omega.{arith}
 use native.Mathlib.Decide.{decLe}
 use borrow.Author.Tests.{leb-true, le-leb, ne-eqb}
 use lib.Dec.{leb, eqb·suc-zero}
-use Rattle.reading.specs.Gaps.{lesser}
+use Rattle.standings.specs.Faults.{lesser}
 
 pub lesser-none : (a : ℕ) → lesser a 0 ≡ a
 unfolding lesser

@@ -12,7 +12,7 @@ use lib.Seq.{getD-append-add}
 use Rattle.rules.specs.Listings.{Line, Book, noLine, levels, book, listing}
 use Rattle.rules.proofs.Lines.{level-size, line-sound, sound-line}
 use Rattle.rules.proofs.Book.{book-sound}
-use Rattle.reading.specs.Data.{joined, begin, begins, flag, flat, from, flagsOf, insidesOf, fromsOf}
+use Rattle.listings.specs.Data.{joined, begin, begins, flag, flat, from, flagsOf, insidesOf, fromsOf}
 
 begin-next : (more : List (List Line)) (v : ℕ) → begin more (suc v) ≡ begin more v + length (getD more v [])
 unfolding begin

@@ -3,13 +3,14 @@
 use Prim.Native.Nat.{ℕ, suc, _+_, _-_, _*_, _/_, _%_}
 use mathlib.Core.Bool.{Bool, true, false, cond, not, _&&_}
 use mathlib.Core.List.{List, [], _∷_}
-use lib.Dec.{eqb, leb}
+use lib.Dec.{eqb}
 use lib.ListN.{getD}
 use Rattle.rules.specs.Listings.{Book, Line, listing}
 use Rattle.rules.specs.Standing.{Item}
 use Rattle.rules.specs.Taking.{Out, walk}
 use Rattle.rules.specs.Verdicts.{accepted, refusedAt, isMandatory, refuses}
 use Rattle.rules.specs.declared.Verdict.{Verdict}
+use Rattle.standings.specs.Faults.{lesser}
 
 unfoldable pub fault : ℕ → ℕ → ℕ → ℕ
 fault o t i = 1 + o * 4096 + t * 16 + i
@@ -21,10 +22,6 @@ packed v = cond (refuses v) (fault (v .place) (v .typ) (v .inst)) 0
 -- and back: the refusal of that number and cause that names it
 unfoldable pub unpacked : ℕ → ℕ → ℕ → Verdict
 unpacked n cause f = cond (eqb f 0) accepted (refusedAt n cause ((f - 1) / 4096 % 65536) ((f - 1) / 16 % 256) ((f - 1) % 16))
-
--- the lesser of two, 0 being none
-unfoldable pub lesser : ℕ → ℕ → ℕ
-lesser f l = cond (eqb l 0) f (cond (eqb f 0) l (cond (leb f l) f l))
 
 -- of the lines from number n on, the first that is mandatory on kind k and whose mark is not 2; the level's place is o
 unfoldable pub lackBy : ℕ → List ℕ → ℕ → ℕ → List Line → ℕ

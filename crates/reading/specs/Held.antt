@@ -14,8 +14,10 @@ use Rattle.rules.specs.Verdicts.{accepted, invalidLength, mandatoryMissing}
 use Rattle.rules.specs.declared.Head.{Head}
 use Rattle.rules.specs.declared.Reading.{Reading}
 use Rattle.facts.specs.Facts.{facts}
-use Rattle.reading.specs.Data.{Tables, keysOf, flagsOf, fromsOf}
-use Rattle.reading.specs.Gaps.{fault, unpacked, lesser, lackOf}
+use Rattle.listings.specs.Data.{keysOf, flagsOf, fromsOf}
+use Rattle.reading.specs.Data.{Tables}
+use Rattle.standings.specs.Faults.{firstFault, lesser}
+use Rattle.reading.specs.Gaps.{fault, unpacked, lackOf}
 use Rattle.reading.specs.declared.Counts.{Counts}
 use Rattle.reading.specs.declared.Taken.{Taken}
 use Rattle.reading.specs.declared.Walk.{Walk}
@@ -37,7 +39,7 @@ held c rows = record { counts = c; rows = rows }
 
 -- the first mandatory element that is short stays
 unfoldable pub shortOf : ℕ → Bool → ℕ → ℕ → ℕ → ℕ → ℕ
-shortOf f must stand place t i = cond (eqb f 0 && must && eqb stand short) (fault place t i) f
+shortOf f must stand place t i = firstFault f must stand (fault place t i)
 
 unfoldable pub counted : Counts → ℕ → ℕ → Counts
 counted c stand f = record { rows = c .rows + 1; kept = cond (eqb stand kept) (c .kept + 1) (c .kept); short = f; gap = c .gap }

@@ -1,17 +1,16 @@
-// One element: its head, its standing, its row and its marks.
+// One element: its head, its row, its marks, and what is counted of it.
 ghost use mathlib.Core.Path.{_≡_};
 ghost use Prim.Native.Nat.{_+_, _≤_, _<_};
-ghost use mathlib.Core.Bool.{true, cond, not, _&&_};
-ghost use lib.Dec.{eqb};
+ghost use mathlib.Core.Bool.{true};
 ghost use lib.ListN.{length};
 ghost use Rattle.rules.specs.Framing.{noHead};
-ghost use Rattle.rules.specs.Standing.{isShort, markAfter};
+ghost use Rattle.rules.specs.Standing.{isShort};
 ghost use Rattle.facts.specs.Facts.{facts};
 ghost use Rattle.reading.specs.Gaps.{fault};
 ghost use Rattle.reading.specs.Held.{held, shortOf, counted, putNumbers, Few, Looked, RowFits, Takes, Took};
 use crate::Counts;
 use crate::Taken;
-use crate::listings;
+use crate::line;
 use crate::wide;
 use rules::Head;
 
@@ -65,40 +64,6 @@ pub(crate) fn is_short(types: &[u8; 256], h: Head) -> bool
     h.len < facts::least(types, h.typ, h.first)
 }
 
-pub(crate) fn sized(short: bool) -> u8
-    ensures { λ r. ⌜ r ≡ cond short 3 0 ⌝ }
-{
-    if short {
-        return 3;
-    }
-    0
-}
-
-// The standing of an element whose pair is listed.
-pub(crate) fn listed_standing(many: bool, mark: u8, short: bool) -> u8
-    ensures { λ r. ⌜ r ≡ cond (not many && not (eqb mark 0)) 2 (cond short 3 0) ⌝ }
-{
-    if many {
-        return sized(short);
-    }
-    if mark != 0 {
-        return 2;
-    }
-    sized(short)
-}
-
-pub(crate) fn mark_after(old: u8, stand: u8) -> u8
-    ensures { λ r. ⌜ r ≡ markAfter old stand ⌝ }
-{
-    if stand == 0 {
-        return 2;
-    }
-    if old == 2 {
-        return 2;
-    }
-    1
-}
-
 // A place with a pair as one number, which grows with the place.
 pub(crate) fn fault_at(place: usize, typ: u8, inst: u8) -> usize
     requires { ⌜ place ≤ 4096 ⌝ }
@@ -111,30 +76,24 @@ pub(crate) fn first_short(f: usize, must: bool, stand: u8, place: usize, typ: u8
     requires { ⌜ place ≤ 4096 ⌝ }
     ensures { λ r. ⌜ r ≡ shortOf f must stand place typ inst ⌝ }
 {
-    if f == 0 {
-        if must {
-            if stand == 3 {
-                return fault_at(place, typ, inst);
-            }
-        }
-    }
-    f
+    standings::first_fault(f, must, stand, fault_at(place, typ, inst))
 }
 
 pub(crate) fn count_one(counts: Counts, stand: u8, short: usize) -> Counts
     requires { ⌜ Few counts 4096 ⌝ }
     ensures { λ r. ⌜ r ≡ counted counts stand short ⌝ }
 {
+    let rows = counts.rows + 1;
     if stand == 0 {
         return Counts {
-            rows: counts.rows + 1,
+            rows,
             kept: counts.kept + 1,
             short,
             gap: counts.gap,
         };
     }
     Counts {
-        rows: counts.rows + 1,
+        rows,
         kept: counts.kept,
         short,
         gap: counts.gap,
@@ -192,16 +151,6 @@ pub(crate) fn write_row(
     );
 }
 
-// Only what is kept is entered.
-pub(crate) fn inner_of(inside: u8, stand: u8) -> u8
-    ensures { λ r. ⌜ r ≡ cond (eqb stand 0) inside 0 ⌝ }
-{
-    if stand == 0 {
-        return inside;
-    }
-    0
-}
-
 // An element is judged and marked at its level, its row is written, and it is counted. A pair that is not listed touches no mark.
 pub(crate) fn take_one(
     kind: u32,
@@ -223,25 +172,25 @@ pub(crate) fn take_one(
 {
     let typ = h.typ;
     let inst = h.inst;
-    let n = listings::find(keys, froms, level, typ, inst);
-    if listings::lines(froms, level) <= n {
+    let n = line::find(keys, froms, level, typ, inst);
+    if line::lines(froms, level) <= n {
         write_row(rows, counts.rows, h, place, parent, 1);
         return Taken {
             counts: count_one(counts, 1, counts.short),
             inner: 0,
         };
     }
-    let must = listings::must(flags, froms, level, n);
-    let many = listings::many(flags, froms, level, n);
-    let inside = listings::inside(insides, froms, level, n);
+    let must = line::must(flags, froms, level, n);
+    let many = line::many(flags, froms, level, n);
+    let inside = line::inside(insides, froms, level, n);
     let short = is_short(types, h);
     let old = seen[n];
-    let stand = listed_standing(many, old, short);
-    seen[n] = mark_after(old, stand);
+    let stand = standings::listed_standing(many, old, short);
+    seen[n] = standings::mark_after(old, stand);
     write_row(rows, counts.rows, h, place, parent, stand);
     let first = first_short(counts.short, must, stand, place, typ, inst);
     Taken {
         counts: count_one(counts, stand, first),
-        inner: inner_of(inside, stand),
+        inner: standings::inner_of(inside, stand),
     }
 }

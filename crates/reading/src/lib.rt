@@ -13,7 +13,7 @@ use rules::Verdict;
 
 mod element;
 mod header;
-mod listings;
+mod line;
 mod run;
 
 // What a walk counts as it goes: rows, kept rows, the first mandatory short element and the first level that lacks a pair, each a place

@@ -6,13 +6,13 @@ ghost use lib.Dec.{eqb};
 ghost use lib.ListN.{length};
 ghost use Rattle.rules.specs.Listings.{book};
 ghost use Rattle.rules.specs.Standing.{fresh};
-ghost use Rattle.reading.specs.Data.{never};
-ghost use Rattle.reading.specs.Gaps.{lesser, lackOf};
+ghost use Rattle.listings.specs.Data.{never};
+ghost use Rattle.reading.specs.Gaps.{lackOf};
 ghost use Rattle.reading.specs.Held.{held, closed, scan, scanIn, Fine, Enters, Ran, Closes};
 use crate::Counts;
 use crate::Walk;
 use crate::element;
-use crate::listings;
+use crate::line;
 
 // Is a line mandatory and listed on this kind, with none of its pair kept?
 pub(crate) fn line_lacks(must: bool, key: u16, mark: u8) -> bool
@@ -40,34 +40,18 @@ pub(crate) fn lacking(
     requires { ⌜ Closes kind level (now keys) (now flags) (now froms) home ⌝ }
     ensures { λ r. ⌜ r ≡ lackOf book kind level (now (seen .entry)) home ⌝ }
 {
-    let from = listings::begin(froms, level as usize);
-    let count = listings::lines(froms, level);
+    let from = line::begin(froms, level as usize);
+    let count = line::lines(froms, level);
     let mut n = 0;
     while n < count {
         let key = keys[from + n];
-        let must = listings::must(flags, froms, level, n);
+        let must = line::must(flags, froms, level, n);
         if line_lacks(must, key, seen[n]) {
             return element::fault_at(home, (key / 32 % 256) as u8, (key % 32) as u8);
         }
         n += 1;
     }
     0
-}
-
-// The lesser of two, 0 being none.
-pub(crate) fn lesser_of(f: usize, l: usize) -> usize
-    ensures { λ r. ⌜ r ≡ lesser f l ⌝ }
-{
-    if l == 0 {
-        return f;
-    }
-    if f == 0 {
-        return l;
-    }
-    if f <= l {
-        return f;
-    }
-    l
 }
 
 // The counts at the end of a level.
@@ -84,7 +68,7 @@ pub(crate) fn close_level(
     requires { ⌜ Closes kind level (now keys) (now flags) (now froms) home ⌝ }
     ensures { λ r. ⌜ r ≡ closed counts (lackOf book kind level (now (seen .entry)) home) ⌝ }
 {
-    let gap = lesser_of(
+    let gap = standings::lesser_of(
         counts.gap,
         lacking(kind, level, keys, flags, froms, seen, home),
     );

@@ -24,6 +24,14 @@ unfolding first
 first-append [] vs = refl
 first-append (u ∷ us) vs = append-case us vs u (refuses u) refl (first-append us vs)
 
+neither : (u v : Verdict) (c : Bool) → refuses u ≡ c → refuses (cond c u v) ≡ false → (c ≡ false) × (refuses v ≡ false)
+neither u v true e z = let y : _≡_ {A = ℕ} 0 1 = cc in absurd (omega arith)
+neither u v false e z = (refl, z)
+
+-- two lists of checks pass where both do
+pub both-pass : (us vs : List Verdict) → refuses (first (us ++ vs)) ≡ false → (refuses (first us) ≡ false) × (refuses (first vs) ≡ false)
+both-pass us vs z = neither (first us) (first vs) (refuses (first us)) refl (rw (first-append us vs) at z)
+
 -- a verdict that refuses nothing, and comes of a check, is acceptance
 pub check-off : (b : Bool) (v : Verdict) → refuses v ≡ true → refuses (check b v) ≡ b
 unfolding check

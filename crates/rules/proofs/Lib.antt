@@ -7,6 +7,7 @@ pub mod Standings
 pub mod Rows
 pub mod Places
 pub mod Header
+pub mod Readings
 pub mod Repeats
 pub mod Covers
 pub mod Book

@@ -1,4 +1,5 @@
 -- How many rows there are, and that their numbers fit. Assumes nothing.
+--     rows-length, kept-most   six numbers a row; no more rows are kept than there are
 --     quarter    a run of n octets has at most n / 4 rows
 --     few-rows   a message of at most 4,096 octets has at most 1,022
 --     fit-16     every number of every row fits in 16 bits
@@ -9,18 +10,34 @@ use Prim.Native.Nat.{ℕ, zero, suc, _+_, _-_, _*_, _%_, _≤_, _<_}
 use native.Mathlib.Omega.{arith}
 use native.Mathlib.Nat.{mod-lt}
 use borrow.Author.Needs.{zero≤}
-use lib.ListN.{length, take, drop, getD, length-append, length-drop, List·getD-eq-default}
-use lib.Seq.{getD-drop, getD-take}
-use Rattle.rules.specs.Sizes.{largestMessage, mostRows}
+use lib.Dec.{eqb}
+use lib.ListN.{length, take, drop, getD, length-append, length-drop, List·getD-eq-default, List·getD-append}
+use lib.Seq.{getD-drop, getD-take, getD-append-add}
+use Rattle.rules.specs.Sizes.{largestMessage, mostRows, rowNumbers}
 use Rattle.rules.specs.Framing.{elementHeader, octet, headOf, headerLength, flagT}
 use Rattle.rules.specs.Listings.{Book}
-use Rattle.rules.specs.Standing.{Item, fresh, itemOf, standing, marked, entered, valuePlace, valueEnd}
+use Rattle.rules.specs.Standing.{Item, fresh, kept, itemOf, standing, marked, entered, valuePlace, valueEnd}
 use Rattle.rules.specs.Taking.{Out, cut, whole, taken, bodyLevel}
+use Rattle.rules.specs.Table.{row, rowsOf, keptRows}
 use Rattle.rules.specs.Met.{At, Met, ends, alone, group}
 use Rattle.rules.specs.declared.Head.{Head}
 use Rattle.rules.proofs.Heads.{head-is, fits, rest-length, value-length}
 use Rattle.rules.proofs.Mets.{whole-met}
 use Rattle.rules.proofs.Standings.{stand-most}
+
+pub rows-length : (is : List Item) → length (rowsOf is) ≡ rowNumbers * length is
+unfolding rowsOf
+rows-length [] = refl
+rows-length (i ∷ is) = omega (arith, rows-length is)
+
+pub kept-most : (is : List Item) → keptRows is ≤ length is
+unfolding keptRows
+kept-most [] = zero≤
+kept-most (i ∷ is) = go (eqb (i .stand) kept) (kept-most is)
+  where
+    go : (c : Bool) → keptRows is ≤ length is → cond c (suc (keptRows is)) (keptRows is) ≤ suc (length is)
+    go true h = omega arith
+    go false h = omega arith
 
 pub quarter : {b : Book} {k v : ℕ} {m : List ℕ} {p n at : ℕ} {xs : List ℕ} {es : List Item} → Met b k v m p n at xs es → 4 * length es ≤ length xs
 quarter ends = zero≤
@@ -75,6 +92,15 @@ unfolding Every
 every-at P [] a j l = absurd (omega arith)
 every-at P (i ∷ is) a zero l = a .0
 every-at P (i ∷ is) a (suc j) l = every-at P is (a .1) j (omega arith)
+
+-- number c of row r
+pub in-rows : (is : List Item) (r c : ℕ) → r < length is → c < rowNumbers → getD (rowsOf is) (rowNumbers * r + c) 0 ≡ getD (row (nth is r)) c 0
+unfolding rowsOf
+in-rows [] r c l h = absurd (omega arith)
+in-rows (i ∷ is) zero c l h = let e : rowNumbers * 0 + c ≡ c = omega arith in rw e (List·getD-append (row i) (rowsOf is) 0 c h)
+in-rows (i ∷ is) (suc r) c l h =
+    let e : rowNumbers * suc r + c ≡ length (row i) + (rowNumbers * r + c) = omega arith in
+    rw e (getD-append-add (row i) (rowsOf is) (rowNumbers * r + c) 0 ∙ in-rows is r c (omega arith) h)
 
 -- ---- the numbers of a row
 

@@ -1,11 +1,12 @@
 -- What the exports leave: the judge's from the decision and what is stored of it, the masker's from the masker. Assumes nothing.
 use mathlib.Core.Path.{_≡_, refl, ap, _∙_}
-use mathlib.Core.Bool.{Bool, true, false}
+use mathlib.Core.Bool.{Bool, true, false, cond}
 use mathlib.Core.List.{List}
-use Prim.Native.Nat.{ℕ}
+use Prim.Native.Nat.{ℕ, _*_, _≤_}
 use native.Mathlib.Omega.{arith}
 use borrow.Author.Tests.{ltb-false}
 use lib.ListN.{length}
+use Rattle.rules.specs.Sizes.{rowNumbers}
 use Rattle.rules.specs.Listings.{book}
 use Rattle.rules.specs.Table.{tableOf, laid}
 use Rattle.rules.specs.Verdicts.{refuses, items}
@@ -13,32 +14,30 @@ use Rattle.rules.specs.Octets.{octetsOf, fiveLaid, tableRoom, judgeOctets}
 use Rattle.rules.specs.Answers.{Decided, JudgedOctets, Masked, MaskedOctets}
 use Rattle.rules.specs.declared.Verdict.{Verdict}
 use Rattle.rules.specs.declared.Decision.{Decision}
-use Rattle.judging.specs.Judging.{Enough}
 use Rattle.judging.proofs.Accepted.{Ready, verdict-is, ready}
 use Rattle.octets.specs.Stored.{tableStored}
 use Rattle.octets.proofs.Tables.{fits}
-use Rattle.wokshimmer.specs.Exports.{tableFor}
+use Rattle.wokshimmer.specs.Exports.{Stored}
 
-module _ (k : ℕ) (m table : List ℕ) {rows rows′ : List ℕ} {d : Decision} (x : Decided k m rows (tableRoom table) d rows′) (big : Enough (length m) (length rows)) where
+module _ (k : ℕ) (m table : List ℕ) {rows rows′ : List ℕ} {d : Decision} (x : Decided k m rows (tableRoom table) d rows′) (held : rowNumbers * d .rows ≤ length rows) where
   on-acceptance : Ready k m rows′ (tableRoom table) d → tableStored rows′ (d .rows) (d .kept) table ≡ laid (octetsOf (tableOf (items book k m))) table
   unfolding tableStored
   on-acceptance r =
       rw (fits rows′ (d .rows) (d .kept) table (r .few) (r .kept-few) (r .there) (omega (arith, r .fits)))
       (ap (λ (q : List ℕ). laid (octetsOf q) table) (r .numbers))
 
-  table-case : (c : Bool) → refuses (d .verdict) ≡ c → tableFor d rows′ table ≡ judgeOctets book k m table
-  unfolding tableFor judgeOctets
+  table-case : (c : Bool) → refuses (d .verdict) ≡ c → cond c table (tableStored rows′ (d .rows) (d .kept) table) ≡ judgeOctets book k m table
+  unfolding judgeOctets
   table-case true e = rw (← verdict-is k m x, e)
   table-case false e =
-      let r = ready k m x big (omega (arith, ltb-false 0 (d .verdict .code) e)) in
-      rw (e, r .accepts) (on-acceptance r)
+      let r = ready k m x (omega (arith, ltb-false 0 (d .verdict .code) e)) held in
+      rw (r .accepts) (on-acceptance r)
 
-  pub judged-octets : {five table′ five′ : List ℕ} → table′ ≡ tableFor d rows′ table → five′ ≡ fiveLaid (d .verdict) five
-      → JudgedOctets k m table five (d .verdict .code) table′ five′
-  judged-octets {five} e f = record {
-    answers = ap (λ (v : Verdict). v .code) (verdict-is k m x);
-    table-left = e ∙ table-case (refuses (d .verdict)) refl;
-    five-left = f ∙ ap (λ (v : Verdict). fiveLaid v five) (verdict-is k m x);
+  pub judged-octets : {code : ℕ} {five table′ five′ : List ℕ} → Stored d rows′ table five code table′ five′ → JudgedOctets k m table five code table′ five′
+  judged-octets {five = five} s = record {
+    answers = s .answers ∙ ap (λ (v : Verdict). v .code) (verdict-is k m x);
+    table-left = s .table-left ∙ table-case (refuses (d .verdict)) refl;
+    five-left = s .five-left ∙ ap (λ (v : Verdict). fiveLaid v five) (verdict-is k m x);
   }
 
 pub masked-octets : {k : ℕ} {m copy five copy′ five′ : List ℕ} {v : Verdict} → Masked k m copy v copy′ → five′ ≡ fiveLaid v five → MaskedOctets k m copy five (v .code) copy′ five′

@@ -1,32 +1,28 @@
 // The exports to C: numbers go as octets, and the code is the result.
-ghost use mathlib.Core.Path.{_≡_};
-ghost use lib.ListN.{length};
 ghost use Rattle.rules.specs.Answers.{JudgedOctets, MaskedOctets};
-ghost use Rattle.judging.specs.Judging.{Enough};
-ghost use Rattle.wokshimmer.specs.Exports.{tableFor};
+ghost use Rattle.wokshimmer.specs.Exports.{Stored};
 use rules::Decision;
 
-// The table is stored from the scratch, on acceptance alone.
-fn store_table(d: Decision, rows: &[u16], table: &mut [u8])
-    ensures { λ _. ⌜ now (table .exit) ≡ tableFor d (now (rows .entry)) (now (table .entry)) ⌝ }
+// The five numbers, and on acceptance the table from a scratch that holds its rows; neither waits for the other's room.
+fn store(d: Decision, rows: &[u16], table: &mut [u8], five: &mut [u8]) -> u16
+    ensures { λ r. ⌜ Stored d (now (rows .entry)) (now (table .entry)) (now (five .entry)) r (now (table .exit)) (now (five .exit)) ⌝ }
 {
     let v = d.verdict;
-    if v.code != 0 {
-        return;
+    let code = v.code;
+    octets::put_five(v, five);
+    if code == 0 {
+        octets::put_table(rows, d.rows, d.kept, table);
     }
-    octets::put_table(rows, d.rows, d.kept, table);
+    code
 }
 
-// The judge, with a scratch that is large enough for the message.
-fn judge_with(kind: u32, message: &[u8], table: &mut [u8], five: &mut [u8], rows: &mut [u16]) -> u16
-    requires { ⌜ Enough (length (now message)) (length (now rows)) ⌝ }
+// The judge, with room for the rows of any message.
+fn judge_all(kind: u32, message: &[u8], table: &mut [u8], five: &mut [u8]) -> u16
     ensures { λ r. ⌜ JudgedOctets kind (now (message .entry)) (now (table .entry)) (now (five .entry)) r (now (table .exit)) (now (five .exit)) ⌝ }
 {
-    let d = judging::decide(kind, message, rows, table.len() / 2);
-    let v = d.verdict;
-    store_table(d, rows, table);
-    octets::put_five(v, five);
-    v.code
+    let mut all = scratch::large();
+    let d = judging::decide(kind, message, &mut all, table.len() / 2);
+    store(d, &all, table, five)
 }
 
 // The verdict's code; its five numbers go to `five`, and on acceptance the table to `table`.
@@ -34,12 +30,16 @@ fn judge_with(kind: u32, message: &[u8], table: &mut [u8], five: &mut [u8], rows
 pub extern "C" fn wok_judge(kind: u32, message: &[u8], table: &mut [u8], five: &mut [u8]) -> u16
     ensures { λ r. ⌜ JudgedOctets kind (now (message .entry)) (now (table .entry)) (now (five .entry)) r (now (table .exit)) (now (five .exit)) ⌝ }
 {
-    if message.len() <= 264 {
-        let mut rows = judging::small();
-        return judge_with(kind, message, table, five, &mut rows);
+    if scratch::crowded(message) {
+        return judge_all(kind, message, table, five);
     }
-    let mut rows = judging::large();
-    judge_with(kind, message, table, five, &mut rows)
+    let room = table.len() / 2;
+    let mut few = scratch::small();
+    let d = judging::decide(kind, message, &mut few, room);
+    if 64 < d.rows {
+        return judge_all(kind, message, table, five);
+    }
+    store(d, &few, table, five)
 }
 
 // The verdict's code; its five numbers go to `five`, and if 1 to 9 and 13 pass the masked copy to `copy`.

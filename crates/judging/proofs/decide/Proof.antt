@@ -1,5 +1,7 @@
 -- `decide` reads, and gives the verdict on the reading. Assumes nothing.
-use Rattle.judging.proofs.Deciding.{few, decided}
+use Rattle.rules.specs.Listings.{book}
+use Rattle.rules.proofs.Readings.{few}
+use Rattle.judging.proofs.Deciding.{decided}
 use borrow.Author.Needs.{needs}
 use Rattle.judging.proofs.decide.Statement.{statement}
 use Rattle.judging.proofs.decide.Tie as tie
@@ -8,7 +10,7 @@ read-requires : tie.Need-read-requires
 read-requires c κs = search needs
 
 verdict-on-requires : tie.Need-verdict-on-requires
-verdict-on-requires c κs = let s = c .before .before .before .before .before .before in rw (c .before .before .read .ensures .answers) (few (s .args .kind) (s .args .message .now))
+verdict-on-requires c κs = let s = c .before .before .before .before .before .before in rw (c .before .before .read .ensures .answers) (few book (s .args .kind) (s .args .message .now))
 
 same-length : tie.Need-same-length
 same-length c = search needs

@@ -1,6 +1,12 @@
 -- `report` puts the text by the decision. Assumes nothing.
+use mathlib.Core.Path.{_≡_}
+use mathlib.Core.List.{List}
+use Prim.Native.Nat.{ℕ}
 use native.Mathlib.Omega.{arith}
-use Rattle.judging.proofs.Accepted.{ready}
+use lib.ListN.{length}
+use Rattle.rules.specs.Answers.{Decided}
+use Rattle.rules.specs.declared.Decision.{Decision}
+use Rattle.judging.proofs.Accepted.{Ready, most-rows, ready}
 use Rattle.lines.proofs.Reports.{reported-refused, reported-accepted}
 use borrow.Author.Needs.{needs}
 use Rattle.lines.proofs.report.Statement.{statement}
@@ -22,13 +28,23 @@ same-length : tie.Need-same-length
 same-length c = search needs
 
 returns : tie.Need-returns
-returns c = let s = c .before .before .before .before .before .before .before .before .before .before .before .before .before in reported-refused (s .args .kind) (s .args .message .now) (s .args .out .now) (c .before .before .before .before .before .before .before .before .decide .ensures) (c .before .before .before .before .if1 .taken) (c .before .before .refusal .ensures)
+returns c =
+    let s = c .before .before .before .before .before .before .before .before .before .before .before .before .before in
+    reported-refused (s .args .kind) (s .args .message .now) (s .args .out .now) (c .before .before .before .before .before .before .before .before .decide .ensures) (c .before .before .before .before .if1 .taken) (c .before .before .refusal .ensures)
+
+-- with room for the rows of any message, the decision is ready for its lines
+module _ (k : ℕ) (m : List ℕ) {rows rows′ : List ℕ} {d : Decision} (x : Decided k m rows 6136 d rows′) (room : 6132 ≡ length rows) (ok : d .verdict .code ≡ 0) where
+  is-ready : Ready k m rows′ 6136 d
+  is-ready = ready k m x ok (omega (arith, most-rows k m x))
 
 cast-counts : tie.Need-cast-counts
-cast-counts c = let q = ready (c .before .before .before .before .before .before .before .before .before .before .args .kind) (c .before .before .before .before .before .before .before .before .before .before .args .message .now) (c .before .before .before .before .before .decide .ensures) (λ few. omega (arith, c .before .before .before .before .before .before .before .large .ensures)) (c .before .if1 .left) in omega (arith, q .few)
+cast-counts c = let s = c .before .before .before .before .before .before .before .before .before .before in omega (arith, is-ready (s .args .kind) (s .args .message .now) (c .before .before .before .before .before .decide .ensures) (c .before .before .before .before .before .before .before .large .ensures) (c .before .if1 .left) .few)
 
 cast-counts-2 : tie.Need-cast-counts-2
-cast-counts-2 c = let q = ready (c .before .before .before .before .before .before .before .before .before .before .before .args .kind) (c .before .before .before .before .before .before .before .before .before .before .before .args .message .now) (c .before .before .before .before .before .before .decide .ensures) (λ few. omega (arith, c .before .before .before .before .before .before .before .before .large .ensures)) (c .before .before .if1 .left) in omega (arith, q .few, q .kept-few)
+cast-counts-2 c =
+    let s = c .before .before .before .before .before .before .before .before .before .before .before in
+    let q = is-ready (s .args .kind) (s .args .message .now) (c .before .before .before .before .before .before .decide .ensures) (c .before .before .before .before .before .before .before .before .large .ensures) (c .before .before .if1 .left) in
+    omega (arith, q .few, q .kept-few)
 
 counts-requires : tie.Need-counts-requires
 counts-requires c κs = search needs
@@ -37,13 +53,19 @@ slice-aggregate-row-lines : tie.Need-slice-aggregate-row-lines
 slice-aggregate-row-lines c = search needs
 
 row-lines-requires : tie.Need-row-lines-requires
-row-lines-requires c κs = let q = ready (c .before .before .before .before .before .before .before .before .before .before .before .before .before .before .before .before .before .args .kind) (c .before .before .before .before .before .before .before .before .before .before .before .before .before .before .before .before .before .args .message .now) (c .before .before .before .before .before .before .before .before .before .before .before .before .decide .ensures) (λ few. omega (arith, c .before .before .before .before .before .before .before .before .before .before .before .before .before .before .large .ensures)) (c .before .before .before .before .before .before .before .before .if1 .left) in q .there
+row-lines-requires c κs =
+    let s = c .before .before .before .before .before .before .before .before .before .before .before .before .before .before .before .before .before in
+    is-ready (s .args .kind) (s .args .message .now) (c .before .before .before .before .before .before .before .before .before .before .before .before .decide .ensures) (c .before .before .before .before .before .before .before .before .before .before .before .before .before .before .large .ensures) (c .before .before .before .before .before .before .before .before .if1 .left) .there
 
 same-length-2 : tie.Need-same-length-2
 same-length-2 c = search needs
 
 returns-2 : tie.Need-returns-2
-returns-2 c = let s = c .before .before .before .before .before .before .before .before .before .before .before .before .before .before .before .before .before .before .before .before in reported-accepted (s .args .kind) (s .args .message .now) (s .args .out .now) (c .before .before .before .before .before .before .before .before .before .before .before .before .before .before .before .decide .ensures) (ready (c .before .before .before .before .before .before .before .before .before .before .before .before .before .before .before .before .before .before .before .before .args .kind) (c .before .before .before .before .before .before .before .before .before .before .before .before .before .before .before .before .before .before .before .before .args .message .now) (c .before .before .before .before .before .before .before .before .before .before .before .before .before .before .before .decide .ensures) (λ few. omega (arith, c .before .before .before .before .before .before .before .before .before .before .before .before .before .before .before .before .before .large .ensures)) (c .before .before .before .before .before .before .before .before .before .before .before .if1 .left)) (c .before .before .before .before .before .before .before .counts .ensures) (c .before .before .row-lines .ensures)
+returns-2 c =
+    let s = c .before .before .before .before .before .before .before .before .before .before .before .before .before .before .before .before .before .before .before .before in
+    let d = c .before .before .before .before .before .before .before .before .before .before .before .before .before .before .before .decide .ensures in
+    reported-accepted (s .args .kind) (s .args .message .now) (s .args .out .now) d
+    (is-ready (s .args .kind) (s .args .message .now) d (c .before .before .before .before .before .before .before .before .before .before .before .before .before .before .before .before .before .large .ensures) (c .before .before .before .before .before .before .before .before .before .before .before .if1 .left)) (c .before .before .before .before .before .before .before .counts .ensures) (c .before .before .row-lines .ensures)
 
 pub report-spec : {M : Type 1} → statement M
 report-spec =

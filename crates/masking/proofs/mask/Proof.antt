@@ -1,18 +1,15 @@
--- `mask` takes the scratch that has room for the message. Assumes nothing.
+-- `mask` settles by the small scratch where the count says that it holds the rows. Assumes nothing.
 use native.Mathlib.Omega.{arith}
-use Rattle.masking.proofs.Scratch.{small-enough, large-enough}
+use Rattle.masking.proofs.Masks.{settles, masked}
 use borrow.Author.Needs.{needs}
 use Rattle.masking.proofs.mask.Statement.{statement}
 use Rattle.masking.proofs.mask.Tie as tie
 
-small-requires : tie.Need-small-requires
-small-requires c κs = search needs
+crowded-requires : tie.Need-crowded-requires
+crowded-requires c κs = search needs
 
-slice-aggregate-mask-with : tie.Need-slice-aggregate-mask-with
-slice-aggregate-mask-with c = search needs
-
-mask-with-requires : tie.Need-mask-with-requires
-mask-with-requires c κs = small-enough _ _ (omega arith) (omega arith)
+mask-all-requires : tie.Need-mask-all-requires
+mask-all-requires c κs = search needs
 
 same-length : tie.Need-same-length
 same-length c = search needs
@@ -20,14 +17,17 @@ same-length c = search needs
 returns : tie.Need-returns
 returns c = search needs
 
-large-requires : tie.Need-large-requires
-large-requires c κs = search needs
+small-requires : tie.Need-small-requires
+small-requires c κs = search needs
 
-slice-aggregate-mask-with-2 : tie.Need-slice-aggregate-mask-with-2
-slice-aggregate-mask-with-2 c = search needs
+slice-aggregate-read : tie.Need-slice-aggregate-read
+slice-aggregate-read c = search needs
 
-mask-with-requires-2 : tie.Need-mask-with-requires-2
-mask-with-requires-2 c κs = large-enough _ _ (omega arith)
+read-requires : tie.Need-read-requires
+read-requires c κs = search needs
+
+mask-all-requires-2 : tie.Need-mask-all-requires-2
+mask-all-requires-2 c κs = search needs
 
 same-length-2 : tie.Need-same-length-2
 same-length-2 c = search needs
@@ -35,17 +35,37 @@ same-length-2 c = search needs
 returns-2 : tie.Need-returns-2
 returns-2 c = search needs
 
+slice-aggregate-settle : tie.Need-slice-aggregate-settle
+slice-aggregate-settle c = search needs
+
+settle-requires : tie.Need-settle-requires
+settle-requires c κs =
+    let s = c .before .before .before .before .before .before .before .before .before .before .before .before in
+    settles (s .args .kind) (s .args .message .now) (c .before .before .before .before .before .read .ensures) (λ j. omega (arith, c .before .before .before .before .before .before .before .before .before .before .before .shared-slice-known .given j)) (omega (arith, c .before .before .if2 .left, c .before .before .before .before .before .before .before .small .ensures))
+
+same-length-3 : tie.Need-same-length-3
+same-length-3 c = search needs
+
+returns-3 : tie.Need-returns-3
+returns-3 c =
+    let s = c .before .before .before .before .before .before .before .before .before .before .before .before .before .before .before in
+    masked (s .args .kind) (s .args .message .now) (c .before .before .before .before .before .before .before .before .read .ensures) (λ j. omega (arith, c .before .before .before .before .before .before .before .before .before .before .before .before .before .before .shared-slice-known .given j)) (omega (arith, c .before .before .before .before .before .if2 .left, c .before .before .before .before .before .before .before .before .before .before .small .ensures)) (s .args .copy .now) (c .before .before .settle .ensures)
+
 pub mask-spec : {M : Type 1} → statement M
 mask-spec =
     tie.close
     (tie.spec
-    small-requires
-    slice-aggregate-mask-with
-    mask-with-requires
+    crowded-requires
+    mask-all-requires
     same-length
     returns
-    large-requires
-    slice-aggregate-mask-with-2
-    mask-with-requires-2
+    small-requires
+    slice-aggregate-read
+    read-requires
+    mask-all-requires-2
     same-length-2
-    returns-2)
+    returns-2
+    slice-aggregate-settle
+    settle-requires
+    same-length-3
+    returns-3)

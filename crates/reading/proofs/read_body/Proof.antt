@@ -1,9 +1,11 @@
 -- `read_body` lays the tables down once, walks the body, and says how that ended. Assumes nothing.
+use mathlib.Core.Path.{_∙_}
 use native.Mathlib.Omega.{arith}
 use lib.ListN.{length-drop}
 use borrow.Author.Needs.{zero≤}
 use Rattle.rules.specs.Listings.{book}
 use Rattle.rules.proofs.Header.{passed}
+use Rattle.listings.proofs.KnownKinds.{keys-are}
 use Rattle.reading.proofs.Messages.{passed-listed}
 use Rattle.reading.proofs.Runs.{ran-is}
 use Rattle.reading.proofs.Endings.{read-cut, read-whole, rest-is}
@@ -15,7 +17,7 @@ table-requires : tie.Need-table-requires
 table-requires c κs = search needs
 
 keys-requires : tie.Need-keys-requires
-keys-requires c κs = passed book _ _ (c .before .before .before .pre) .kind
+keys-requires c κs = search needs
 
 flags-requires : tie.Need-flags-requires
 flags-requires c κs = search needs
@@ -51,7 +53,7 @@ read-run-requires c κs =
     let p = passed book (s .args .kind) (s .args .message .now) (s .pre) in
     let n = length-drop (d .before .start .result) (s .args .message .now) in
     record {
-      lent = record { types = d .before .before .before .before .before .before .table .ensures; tables = record { keys = d .before .before .before .before .before .keys .ensures; flags = d .before .before .before .before .flags .ensures; insides = d .before .before .before .insides .ensures; froms = d .before .before .froms .ensures } };
+      lent = record { types = d .before .before .before .before .before .before .table .ensures; tables = record { keys = d .before .before .before .before .before .keys .ensures ∙ keys-are (s .args .kind) (p .kind); flags = d .before .before .before .before .flags .ensures; insides = d .before .before .before .insides .ensures; froms = d .before .before .froms .ensures } };
       level = d .body .ensures .level;
       home = zero≤;
       parent = zero≤;

@@ -5,22 +5,19 @@ use borrow.Author.Needs.{needs}
 use Rattle.reading.proofs.element.count_one.Statement.{statement}
 use Rattle.reading.proofs.element.count_one.Tie as tie
 
-add-t5 : tie.Need-add-t5
-add-t5 c = search needs
+add-rows : tie.Need-add-rows
+add-rows c = search needs
 
 add-t6 : tie.Need-add-t6
 add-t6 c = search needs
 
 returns : tie.Need-returns
 unfolding counted
-returns c = simp (eq-eqb _ _ (c .before .before .if1 .taken))
-
-add-t7 : tie.Need-add-t7
-add-t7 c = search needs
+returns c = simp (eq-eqb _ _ (c .before .if1 .taken))
 
 returns-2 : tie.Need-returns-2
 unfolding counted
-returns-2 c = simp (ne-eqb _ _ (c .before .if1 .left))
+returns-2 c = simp (ne-eqb _ _ (c .if1 .left))
 
 pub count-one-spec : {M : Type 1} → statement M
-count-one-spec = tie.close (tie.spec add-t5 add-t6 returns add-t7 returns-2)
+count-one-spec = tie.close (tie.spec add-rows add-t6 returns returns-2)

@@ -1,0 +1,45 @@
+-- `judge_all` has room for the rows of any message. Assumes nothing.
+use native.Mathlib.Omega.{arith}
+use Rattle.judging.proofs.Accepted.{most-rows, settles, judged}
+use borrow.Author.Needs.{needs}
+use Rattle.judging.proofs.judge_all.Statement.{statement}
+use Rattle.judging.proofs.judge_all.Tie as tie
+
+large-requires : tie.Need-large-requires
+large-requires c κs = search needs
+
+slice-aggregate-decide : tie.Need-slice-aggregate-decide
+slice-aggregate-decide c = search needs
+
+decide-requires : tie.Need-decide-requires
+decide-requires c κs = search needs
+
+slice-aggregate-settle : tie.Need-slice-aggregate-settle
+slice-aggregate-settle c = search needs
+
+settle-requires : tie.Need-settle-requires
+settle-requires c κs =
+    let s = c .before .before .before .before .before .before .before .before in
+    let d = c .before .before .before .decide .ensures in
+    settles (s .args .kind) (s .args .message .now) (s .args .table .now) d (omega (arith, most-rows (s .args .kind) (s .args .message .now) d, c .before .before .before .before .before .large .ensures))
+
+same-length : tie.Need-same-length
+same-length c = search needs
+
+returns : tie.Need-returns
+returns c =
+    let s = c .before .before .before .before .before .before .before .before .before .before .before in
+    let d = c .before .before .before .before .before .before .decide .ensures in
+    judged (s .args .kind) (s .args .message .now) (s .args .table .now) d (omega (arith, most-rows (s .args .kind) (s .args .message .now) d, c .before .before .before .before .before .before .before .before .large .ensures)) (c .before .before .settle .ensures)
+
+pub judge-all-spec : {M : Type 1} → statement M
+judge-all-spec =
+    tie.close
+    (tie.spec
+    large-requires
+    slice-aggregate-decide
+    decide-requires
+    slice-aggregate-settle
+    settle-requires
+    same-length
+    returns)

@@ -1,0 +1,57 @@
+// What a message is read into: room for few rows or for all, and which of them to try first.
+ghost use mathlib.Core.Path.{_≡_};
+ghost use Prim.Native.Nat.{_+_, _<_};
+ghost use lib.ListN.{length};
+ghost use Rattle.scratch.specs.Guessing.{Start, Two, crowded};
+
+// A scratch for 64 rows, which most messages do not fill, and one for the rows of any message. The language sets them to 0, which is what
+// the small one saves.
+pub fn small() -> [u16; 384]
+    ensures { λ r. ⌜ 384 ≡ length r ⌝ }
+{
+    [0u16; 384]
+}
+
+pub fn large() -> [u16; 6132]
+    ensures { λ r. ⌜ 6132 ≡ length r ⌝ }
+{
+    [0u16; 6132]
+}
+
+// Where the elements begin.
+fn start(message: &[u8]) -> usize
+    requires { ⌜ 0 < length (now message) ⌝ }
+    ensures { λ r. ⌜ Start (now (message .entry)) r ⌝ }
+{
+    if message[0] / 8 % 2 == 1 {
+        return 12;
+    }
+    8
+}
+
+// Two octets as a number, high octet first.
+fn two(message: &[u8], at: usize) -> usize
+    requires { ⌜ at + 1 < length (now message) ⌝ }
+    ensures { λ r. ⌜ Two (now (message .entry)) at r ⌝ }
+{
+    message[at] as usize * 256 + message[at + 1] as usize
+}
+
+// Does a message look as if it had more than 64 rows? A caller who guesses by it need not read most messages twice.
+pub fn crowded(message: &[u8]) -> bool
+    ensures { λ r. ⌜ r ≡ crowded (now (message .entry)) ⌝ }
+{
+    if message.len() <= 264 {
+        return false;
+    }
+    let mut at = start(message);
+    let mut n = 0usize;
+    while n < 8 {
+        if message.len() < at + 4 {
+            return false;
+        }
+        at = at + 4 + two(message, at + 1);
+        n += 1;
+    }
+    8 * at < message.len()
+}

@@ -1,0 +1,81 @@
+-- `wok_judge` stores by the small scratch where the count says that it holds the rows. Assumes nothing.
+use native.Mathlib.Omega.{arith}
+use Rattle.wokshimmer.proofs.Exported.{judged-octets}
+use borrow.Author.Needs.{needs}
+use Rattle.wokshimmer.proofs.wok_judge.Statement.{statement}
+use Rattle.wokshimmer.proofs.wok_judge.Tie as tie
+
+crowded-requires : tie.Need-crowded-requires
+crowded-requires c κs = search needs
+
+judge-all-requires : tie.Need-judge-all-requires
+judge-all-requires c κs = search needs
+
+same-length : tie.Need-same-length
+same-length c = search needs
+
+same-length-2 : tie.Need-same-length-2
+same-length-2 c = search needs
+
+returns : tie.Need-returns
+returns c = search needs
+
+small-requires : tie.Need-small-requires
+small-requires c κs = search needs
+
+slice-aggregate-decide : tie.Need-slice-aggregate-decide
+slice-aggregate-decide c = search needs
+
+decide-requires : tie.Need-decide-requires
+decide-requires c κs = search needs
+
+judge-all-requires-2 : tie.Need-judge-all-requires-2
+judge-all-requires-2 c κs = search needs
+
+same-length-3 : tie.Need-same-length-3
+same-length-3 c = search needs
+
+same-length-4 : tie.Need-same-length-4
+same-length-4 c = search needs
+
+returns-2 : tie.Need-returns-2
+returns-2 c = search needs
+
+slice-aggregate-store : tie.Need-slice-aggregate-store
+slice-aggregate-store c = search needs
+
+store-requires : tie.Need-store-requires
+store-requires c κs = search needs
+
+same-length-5 : tie.Need-same-length-5
+same-length-5 c = search needs
+
+same-length-6 : tie.Need-same-length-6
+same-length-6 c = search needs
+
+returns-3 : tie.Need-returns-3
+returns-3 c =
+    let s = c .before .before .before .before .before .before .before .before .before .before .before .before .before .before .before .before .before .before .before in
+    judged-octets (s .args .kind) (s .args .message .now) (s .args .table .now) (c .before .before .before .before .before .before .before .before .before .before .before .decide .ensures) (omega (arith, c .before .before .before .before .before .before .before .before .if2 .left, c .before .before .before .before .before .before .before .before .before .before .before .before .before .small .ensures)) (c .before .before .before .before .store .ensures)
+
+pub wok-judge-spec : {M : Type 1} → statement M
+wok-judge-spec =
+    tie.close
+    (tie.spec
+    crowded-requires
+    judge-all-requires
+    same-length
+    same-length-2
+    returns
+    small-requires
+    slice-aggregate-decide
+    decide-requires
+    judge-all-requires-2
+    same-length-3
+    same-length-4
+    returns-2
+    slice-aggregate-store
+    store-requires
+    same-length-5
+    same-length-6
+    returns-3)
