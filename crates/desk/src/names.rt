@@ -1,110 +1,260 @@
-// Names by number: interface kinds, messages, and elements as TS 29.274 Table 8.1-1 has them. A name of over 31 octets is given by its
-// abbreviation in that table. 201 has its number from document 01 alone.
-use crate::text::column;
-use crate::text::say;
-
-pub(crate) fn kind(kind: u32) {
-    match kind {
-        1 => say(b"S11"),
-        2 => say(b"S4"),
-        3 => say(b"S5/S8"),
-        _ => say(b"no known interface"),
-    }
-}
-
-pub(crate) fn message(typ: u8) {
-    match typ {
-        1 => say(b"Echo Request"),
-        2 => say(b"Echo Response"),
-        32 => say(b"Create Session Request"),
-        37 => say(b"Delete Session Response"),
-        66 => say(b"Delete Bearer Command"),
-        67 => say(b"Delete Bearer Failure Indication"),
-        68 => say(b"Bearer Resource Command"),
-        69 => say(b"Bearer Resource Failure Indication"),
-        97 => say(b"Update Bearer Request"),
-        _ => say(b"Message not listed"),
-    }
-}
-
-pub(crate) fn cause(cause: u16) {
-    match cause {
-        67 => say(b"; cause 67 Invalid length"),
-        70 => say(b"; cause 70 Mandatory IE missing"),
-        _ => say(b"; no cause"),
-    }
-}
-
-pub(crate) fn standing(standing: u16, width: usize) {
-    match standing {
-        0 => column(b"kept", width),
-        1 => column(b"not listed", width),
-        2 => column(b"repeat", width),
-        _ => column(b"short", width),
-    }
-}
-
-// An element's name in a column; a number that no listing has is not named. Ten to a function, since a proof's time grows with
-// the texts that one function lends.
-pub(crate) fn element(typ: u16, width: usize) {
-    match typ {
-        1 => column(b"IMSI", width),
-        2 => column(b"Cause", width),
-        3 => column(b"Recovery (Restart Counter)", width),
-        71 => column(b"Access Point Name (APN)", width),
-        72 => column(b"AMBR", width),
-        73 => column(b"EPS Bearer ID (EBI)", width),
-        75 => column(b"Mobile Equipment Identity (MEI)", width),
-        76 => column(b"MSISDN", width),
-        77 => column(b"Indication", width),
-        78 => column(b"PCO", width),
-        _ => element_from_79(typ, width),
-    }
-}
-
-fn element_from_79(typ: u16, width: usize) {
-    match typ {
-        79 => column(b"PDN Address Allocation (PAA)", width),
-        80 => column(b"Bearer QoS", width),
-        81 => column(b"Flow QoS", width),
-        82 => column(b"RAT Type", width),
-        83 => column(b"Serving Network", width),
-        84 => column(b"Bearer TFT", width),
-        85 => column(b"TAD", width),
-        86 => column(b"User Location Information (ULI)", width),
-        87 => column(b"F-TEID", width),
-        93 => column(b"Bearer Context", width),
-        _ => element_from_94(typ, width),
-    }
-}
-
-fn element_from_94(typ: u16, width: usize) {
-    match typ {
-        94 => column(b"Charging ID", width),
-        95 => column(b"Charging Characteristics", width),
-        96 => column(b"Trace Information", width),
-        97 => column(b"Bearer Flags", width),
-        99 => column(b"PDN Type", width),
-        100 => column(b"Procedure Transaction ID", width),
-        114 => column(b"UE Time Zone", width),
-        127 => column(b"APN Restriction", width),
-        128 => column(b"Selection Mode", width),
-        132 => column(b"FQ-CSID", width),
-        _ => element_from_152(typ, width),
-    }
-}
-
-fn element_from_152(typ: u16, width: usize) {
-    match typ {
-        152 => column(b"Node Features", width),
-        156 => column(b"EPC Timer", width),
-        170 => column(b"ULI Timestamp", width),
-        172 => column(b"RAN/NAS Cause", width),
-        180 => column(b"Overload Control Information", width),
-        182 => column(b"Metric", width),
-        183 => column(b"Sequence Number", width),
-        201 => column(b"Secondary RAT Usage Data Report", width),
-        255 => column(b"Private Extension", width),
-        _ => column(b"not named", width),
-    }
-}
+// The elements' names by type number, 32 octets each with blanks at the end, as TS 29.274 Table 8.1-1 has them: by its abbreviation
+// where a name is over 31 octets, and shortened where it has none. 201 has its number from document 01 alone; 190 to 254 have none else.
+pub(crate) const NAMES: [u8; 8192] = *b"\
+    Reserved                        \
+    IMSI                            \
+    Cause                           \
+    Recovery (Restart Counter)      \
+    Reserved for S101 interface     \
+    Reserved for S101 interface     \
+    Reserved for S101 interface     \
+    Reserved for S101 interface     \
+    Reserved for S101 interface     \
+    Reserved for S101 interface     \
+    Reserved for S101 interface     \
+    Reserved for S101 interface     \
+    Reserved for S101 interface     \
+    Reserved for S101 interface     \
+    Reserved for S101 interface     \
+    Reserved for S101 interface     \
+    Reserved for S101 interface     \
+    Reserved for S101 interface     \
+    Reserved for S101 interface     \
+    Reserved for S101 interface     \
+    Reserved for S101 interface     \
+    Reserved for S101 interface     \
+    Reserved for S101 interface     \
+    Reserved for S101 interface     \
+    Reserved for S101 interface     \
+    Reserved for S101 interface     \
+    Reserved for S101 interface     \
+    Reserved for S101 interface     \
+    Reserved for S101 interface     \
+    Reserved for S101 interface     \
+    Reserved for S101 interface     \
+    Reserved for S101 interface     \
+    Reserved for S101 interface     \
+    Reserved for S101 interface     \
+    Reserved for S101 interface     \
+    Reserved for S121 interface     \
+    Reserved for S121 interface     \
+    Reserved for S121 interface     \
+    Reserved for S121 interface     \
+    Reserved for S121 interface     \
+    Reserved for S121 interface     \
+    Reserved for S121 interface     \
+    Reserved for S121 interface     \
+    Reserved for S121 interface     \
+    Reserved for S121 interface     \
+    Reserved for S121 interface     \
+    Reserved for S121 interface     \
+    Reserved for S121 interface     \
+    Reserved for S121 interface     \
+    Reserved for S121 interface     \
+    Reserved for S121 interface     \
+    STN-SR                          \
+    Reserved for Sv interface       \
+    Reserved for Sv interface       \
+    Reserved for Sv interface       \
+    Reserved for Sv interface       \
+    Reserved for Sv interface       \
+    Reserved for Sv interface       \
+    Reserved for Sv interface       \
+    Reserved for Sv interface       \
+    Reserved for Sv interface       \
+    Reserved for Sv interface       \
+    Reserved for Sv interface       \
+    Reserved for Sv interface       \
+    Reserved for Sv interface       \
+    Reserved for Sv interface       \
+    Reserved for Sv interface       \
+    Reserved for Sv interface       \
+    Reserved for Sv interface       \
+    Reserved for Sv interface       \
+    Reserved for Sv interface       \
+    Access Point Name (APN)         \
+    AMBR                            \
+    EPS Bearer ID (EBI)             \
+    IP Address                      \
+    Mobile Equipment Identity (MEI) \
+    MSISDN                          \
+    Indication                      \
+    PCO                             \
+    PDN Address Allocation (PAA)    \
+    Bearer QoS                      \
+    Flow QoS                        \
+    RAT Type                        \
+    Serving Network                 \
+    Bearer TFT                      \
+    TAD                             \
+    User Location Information (ULI) \
+    F-TEID                          \
+    TMSI                            \
+    Global CN-Id                    \
+    S103PDF                         \
+    S1UDF                           \
+    Delay Value                     \
+    Bearer Context                  \
+    Charging ID                     \
+    Charging Characteristics        \
+    Trace Information               \
+    Bearer Flags                    \
+    Reserved                        \
+    PDN Type                        \
+    Procedure Transaction ID        \
+    Reserved                        \
+    Reserved                        \
+    MM Context                      \
+    MM Context                      \
+    MM Context                      \
+    MM Context                      \
+    MM Context                      \
+    MM Context                      \
+    PDN Connection                  \
+    PDU Numbers                     \
+    P-TMSI                          \
+    P-TMSI Signature                \
+    Hop Counter                     \
+    UE Time Zone                    \
+    Trace Reference                 \
+    Complete Request Message        \
+    GUTI                            \
+    F-Container                     \
+    F-Cause                         \
+    PLMN ID                         \
+    Target Identification           \
+    Reserved                        \
+    Packet Flow ID                  \
+    RAB Context                     \
+    Source RNC PDCP Context Info    \
+    UDP Source Port Number          \
+    APN Restriction                 \
+    Selection Mode                  \
+    Source Identification           \
+    Reserved                        \
+    Change Reporting Action         \
+    FQ-CSID                         \
+    Channel needed                  \
+    eMLPP Priority                  \
+    Node Type                       \
+    FQDN                            \
+    Transaction Identifier (TI)     \
+    MBMS Session Duration           \
+    MBMS Service Area               \
+    MBMS Session Identifier         \
+    MBMS Flow Identifier            \
+    MBMS IP Multicast Distribution  \
+    MBMS Distribution Acknowledge   \
+    RFSP Index                      \
+    User CSG Information (UCI)      \
+    CSG Info Reporting Action       \
+    CSG ID                          \
+    CSG Membership Indication (CMI) \
+    Service indicator               \
+    Detach Type                     \
+    Local Distiguished Name (LDN)   \
+    Node Features                   \
+    MBMS Time to Data Transfer      \
+    Throttling                      \
+    ARP                             \
+    EPC Timer                       \
+    Signalling Priority Indication  \
+    TMGI                            \
+    Additional MM context for SRVCC \
+    Additional flags for SRVCC      \
+    Reserved                        \
+    MDT Configuration               \
+    APCO                            \
+    Abs. Time of MBMS Data Transfer \
+    H(e)NB Information Reporting    \
+    IP4CP                           \
+    Change to Report Flags          \
+    Action Indication               \
+    TWAN Identifier                 \
+    ULI Timestamp                   \
+    MBMS Flags                      \
+    RAN/NAS Cause                   \
+    CN Operator Selection Entity    \
+    Trusted WLAN Mode Indication    \
+    Node Number                     \
+    Node Identifier                 \
+    Presence Reporting Area Action  \
+    Presence Reporting Area Info    \
+    TWAN Identifier Timestamp       \
+    Overload Control Information    \
+    Load Control Information        \
+    Metric                          \
+    Sequence Number                 \
+    APN and Relative Capacity       \
+    WLAN Offloadability Indication  \
+    Paging and Service Information  \
+    Integer Number                  \
+    Millisecond Time Stamp          \
+    Monitoring Event Information    \
+    not named                       \
+    not named                       \
+    not named                       \
+    not named                       \
+    not named                       \
+    not named                       \
+    not named                       \
+    not named                       \
+    not named                       \
+    not named                       \
+    not named                       \
+    Secondary RAT Usage Data Report \
+    not named                       \
+    not named                       \
+    not named                       \
+    not named                       \
+    not named                       \
+    not named                       \
+    not named                       \
+    not named                       \
+    not named                       \
+    not named                       \
+    not named                       \
+    not named                       \
+    not named                       \
+    not named                       \
+    not named                       \
+    not named                       \
+    not named                       \
+    not named                       \
+    not named                       \
+    not named                       \
+    not named                       \
+    not named                       \
+    not named                       \
+    not named                       \
+    not named                       \
+    not named                       \
+    not named                       \
+    not named                       \
+    not named                       \
+    not named                       \
+    not named                       \
+    not named                       \
+    not named                       \
+    not named                       \
+    not named                       \
+    not named                       \
+    not named                       \
+    not named                       \
+    not named                       \
+    not named                       \
+    not named                       \
+    not named                       \
+    not named                       \
+    not named                       \
+    not named                       \
+    not named                       \
+    not named                       \
+    not named                       \
+    not named                       \
+    not named                       \
+    not named                       \
+    not named                       \
+    not named                       \
+    Private Extension               \
+    ";

@@ -3,7 +3,7 @@
 use mathlib.Core.Path.{_≡_, refl}
 use mathlib.Core.Bool.{Bool, true, false, cond}
 use mathlib.Core.List.{List, [], _∷_, _++_}
-use Prim.Native.Nat.{ℕ, _+_, _*_, _/_, _%_, _≤_}
+use Prim.Native.Nat.{ℕ, _+_, _*_, _≤_}
 use native.Mathlib.Omega.{arith}
 use lib.Dec.{ltb}
 use lib.ListN.{length, length-append}
@@ -13,34 +13,11 @@ use Rattle.rules.specs.Standing.{Item, valuePlace}
 use Rattle.rules.specs.Table.{row, keptRows}
 use Rattle.rules.specs.Verdicts.{items, refuses, framingChecks, tableChecks, judgeChecks, judgeVerdict}
 use Rattle.rules.specs.Octets.{five}
-use Rattle.rules.specs.Program.{digitAt, decimal, blanked, line, rowLines, textOf, acceptWord, refuseWord}
+use Rattle.rules.specs.Program.{decimal, blanked, line, rowLines, textOf, acceptWord, refuseWord}
 use Rattle.rules.specs.declared.Verdict.{Verdict}
 use Rattle.rules.proofs.Checks.{both-pass}
 use Rattle.rules.proofs.Readings.{few as few-rows, count-is}
-
-digit-length : (n power : ℕ) → length (digitAt n power) ≤ 1
-unfolding digitAt
-digit-length n power = go (ltb n power)
-  where
-    go : (c : Bool) → length (cond c [] ((48 + n / power % 10) ∷ [])) ≤ 1
-    go true = omega arith
-    go false = omega arith
-
-pub decimal-length : (n : ℕ) → length (decimal n) ≤ 5
-unfolding decimal
-decimal-length n =
-    let d = (48 + n % 10) ∷ [] in
-    omega (
-      arith,
-      digit-length n 10000,
-      digit-length n 1000,
-      digit-length n 100,
-      digit-length n 10,
-      length-append (digitAt n 10000) (digitAt n 1000 ++ (digitAt n 100 ++ (digitAt n 10 ++ d))),
-      length-append (digitAt n 1000) (digitAt n 100 ++ (digitAt n 10 ++ d)),
-      length-append (digitAt n 100) (digitAt n 10 ++ d),
-      length-append (digitAt n 10) d,
-    )
+use Rattle.wording.proofs.Decimals.{decimal-length}
 
 blanked-length : (xs : List ℕ) → length (blanked xs) ≤ 6 * length xs + 1
 unfolding blanked

@@ -22,7 +22,7 @@ fn wide(x: u16) -> usize
 }
 
 // How many rows the table has: none if it is shorter than it says.
-fn rows(table: &[u16]) -> usize
+pub fn rows(table: &[u16]) -> usize
     ensures { λ r. ⌜ r ≡ tableRows (now (table .entry)) ⌝ }
 {
     if table.len() < HEADER {

@@ -8,7 +8,7 @@ fn answer(input: &[u8], copy: &mut [u8]) {
     let kind = wide(input[0]);
     let v = masking::mask(kind, &input[1..], copy);
     if v.code == 0 {
-        output::first(copy, input.len() - 1);
+        io::write_all(1, output::first(copy, input.len() - 1));
     }
 }
 

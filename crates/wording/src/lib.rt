@@ -1,8 +1,11 @@
 // Text into a lent buffer, octet by octet, as far as the buffer reaches.
+ghost use mathlib.Core.Path.{_≡_};
 ghost use mathlib.Core.List.{[], _∷_};
-ghost use Prim.Native.Nat.{_≤_};
+ghost use Prim.Native.Nat.{_≤_, _<_};
+ghost use lib.ListN.{length};
 ghost use Rattle.rules.specs.Program.{digitAt, decimal};
 ghost use Rattle.wording.specs.Puts.{Puts};
+ghost use Rattle.wording.specs.Pieces.{gap, leftIn, rightIn, hexDigit, hex, hexes};
 
 // One octet at `at`; answers where the next one goes.
 pub fn put(octet: u8, at: usize, out: &mut [u8]) -> usize
@@ -53,6 +56,87 @@ pub fn copy(text: &[u8], at: usize, out: &mut [u8]) -> usize
     let mut n = 0;
     while n < text.len() {
         to = put(text[n], to, out);
+        n += 1;
+    }
+    to
+}
+
+// The blanks that fill a column beside so many octets.
+pub fn gap(width: usize, taken: usize, at: usize, out: &mut [u8]) -> usize
+    ensures { λ r. ⌜ Puts (gap width taken) at (now (out .entry)) r (now (out .exit)) ⌝ }
+{
+    let mut to = at;
+    let mut n = taken;
+    while n < width {
+        to = put(32, to, out);
+        n += 1;
+    }
+    to
+}
+
+// Words at the left of a column.
+pub fn left(text: &[u8], width: usize, at: usize, out: &mut [u8]) -> usize
+    ensures { λ r. ⌜ Puts (leftIn width (now (text .entry))) at (now (out .entry)) r (now (out .exit)) ⌝ }
+{
+    let after = copy(text, at, out);
+    gap(width, text.len(), after, out)
+}
+
+// How many digits a number has.
+fn digits(n: u16) -> usize
+    ensures { λ r. ⌜ r ≡ length (decimal n) ⌝ }
+{
+    if n < 10 {
+        return 1;
+    }
+    if n < 100 {
+        return 2;
+    }
+    if n < 1000 {
+        return 3;
+    }
+    if n < 10000 {
+        return 4;
+    }
+    5
+}
+
+// A number at the right of a column.
+pub fn right(n: u16, width: usize, at: usize, out: &mut [u8]) -> usize
+    ensures { λ r. ⌜ Puts (rightIn width (decimal n)) at (now (out .entry)) r (now (out .exit)) ⌝ }
+{
+    let after = gap(width, digits(n), at, out);
+    number(n, after, out)
+}
+
+fn hex_digit(x: u8) -> u8
+    requires { ⌜ x < 16 ⌝ }
+    ensures { λ r. ⌜ r ≡ hexDigit x ⌝ }
+{
+    if x < 10 {
+        return 48 + x;
+    }
+    55 + x
+}
+
+// An octet in hex.
+pub fn hex(octet: u8, at: usize, out: &mut [u8]) -> usize
+    ensures { λ r. ⌜ Puts (hex octet) at (now (out .entry)) r (now (out .exit)) ⌝ }
+{
+    let high = hex_digit(octet / 16);
+    let low = hex_digit(octet % 16);
+    let after = put(high, at, out);
+    put(low, after, out)
+}
+
+// The octets of `part` in hex.
+pub fn hexes(part: &[u8], at: usize, out: &mut [u8]) -> usize
+    ensures { λ r. ⌜ Puts (hexes (now (part .entry))) at (now (out .entry)) r (now (out .exit)) ⌝ }
+{
+    let mut to = at;
+    let mut n = 0;
+    while n < part.len() {
+        to = hex(part[n], to, out);
         n += 1;
     }
     to

@@ -1,21 +1,19 @@
--- `first` lends as many octets as it says. Assumes nothing.
+-- `first` answers the whole text, or its first octets. Assumes nothing.
+use mathlib.Core.Path.{refl, sym}
 use native.Mathlib.Omega.{arith}
-use lib.ListN.{length-take}
+use lib.Seq.{take-all, length-take-le}
 use borrow.Author.Needs.{needs}
 use Rattle.output.proofs.first.Statement.{statement}
 use Rattle.output.proofs.first.Tie as tie
 
-slice-aggregate-write-all : tie.Need-slice-aggregate-write-all
-slice-aggregate-write-all c = let s = c .before .before .before in omega (arith, length-take (s .args .n) (s .args .text .now), c .before .if1 .taken)
-
-write-all-requires : tie.Need-write-all-requires
-write-all-requires c κs = search needs
-
 returns : tie.Need-returns
-returns c = search needs
+returns c = record { octets = sym (take-all (c .before .args .n) (c .before .args .text .now) (omega (arith, c .if1 .taken))); block = refl; place = refl }
+
+slice-aggregate-result : tie.Need-slice-aggregate-result
+slice-aggregate-result c = sym (length-take-le (c .before .before .args .n) (c .before .before .args .text .now) (c .before .if1 .left))
 
 returns-2 : tie.Need-returns-2
 returns-2 c = search needs
 
 pub first-spec : {M : Type 1} → statement M
-first-spec = tie.close (tie.spec slice-aggregate-write-all write-all-requires returns returns-2)
+first-spec = tie.close (tie.spec returns slice-aggregate-result returns-2)

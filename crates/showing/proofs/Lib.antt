@@ -1,0 +1,4 @@
+pub mod Tables
+pub mod Paging
+pub mod Blind
+pub mod Lengths

@@ -1,0 +1,31 @@
+-- `page_by` lends the front of the room. Assumes nothing.
+use Prim.Native.Nat.{ℕ}
+use mathlib.Core.Path.{sym, ap, _∙_}
+use native.Mathlib.Omega.{arith}
+use lib.ListN.{length, take, length-replicate}
+use lib.Seq.{length-take-le}
+use Rattle.showing.proofs.Paging.{front-room}
+use borrow.Author.Needs.{needs}
+use Rattle.showing.proofs.page_by.Statement.{statement}
+use Rattle.showing.proofs.page_by.Tie as tie
+
+slice-relend-prefix-copied-page : tie.Need-slice-relend-prefix-copied-page
+slice-relend-prefix-copied-page c = omega (arith, c .before .before .before .before .pre .0, ap length (c .before .before .before .before .pre .1), length-replicate {A = ℕ} 4097 0)
+
+slice-aggregate-copied-page : tie.Need-slice-aggregate-copied-page
+slice-aggregate-copied-page c = let s = c .before .before .before .before .before in sym (length-take-le (length (s .args .message .now)) (s .args .room .now) (omega (arith, s .pre .0, ap length (s .pre .1), length-replicate {A = ℕ} 4097 0)))
+
+copied-page-requires : tie.Need-copied-page-requires
+copied-page-requires c κs = let s = c .before .before .before .before .before .before in (s .pre .0, ap (take (length (s .args .message .now))) (s .pre .1) ∙ front-room (length (s .args .message .now)) 4097 (s .pre .0))
+
+returns : tie.Need-returns
+returns c = c .before .before .before .before .copied-page .ensures
+
+same-length : tie.Need-same-length
+same-length c = search needs
+
+same-length-2 : tie.Need-same-length-2
+same-length-2 c = search needs
+
+pub page-by-spec : {M : Type 1} → statement M
+page-by-spec = tie.close (tie.spec slice-relend-prefix-copied-page slice-aggregate-copied-page copied-page-requires same-length same-length-2 returns)
