@@ -17,7 +17,7 @@
 #define ROOM (4 * PAGE)
 #define PATTERN 0xA5u
 #define SMALL_MESSAGE 264u
-#define LEAST_LEFT 512u /* octets of the stack that no call may write */
+#define LEAST_LEFT 1024u /* octets of the stack that no call may write */
 #define MOST_A_LEVEL 512u
 
 struct call {

@@ -152,7 +152,7 @@ pub(crate) const NAMES: [u8; 8192] = *b"\
     CSG Membership Indication (CMI) \
     Service indicator               \
     Detach Type                     \
-    Local Distiguished Name (LDN)   \
+    Local Distinguished Name (LDN)  \
     Node Features                   \
     MBMS Time to Data Transfer      \
     Throttling                      \

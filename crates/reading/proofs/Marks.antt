@@ -21,7 +21,7 @@ use Rattle.rules.specs.Verdicts.{isMandatory, isKept, hasKept, check, refusedAt
 use Rattle.rules.specs.Sound.{sound}
 use Rattle.rules.specs.declared.Head.{Head}
 use Rattle.rules.proofs.Lines.{and-left, and-right, seek-lists, seek-own, lists-is, level-distinct, level-size, line-sound, sound-line}
-use Rattle.rules.proofs.Standings.{marked-listed, marked-unlisted}
+use Rattle.rules.proofs.Standings.{no-mark, marked-listed, marked-unlisted}
 use Rattle.reading.specs.Gaps.{fault, packed, lackBy, lackOf}
 
 -- ---- the first mandatory line that is not had, whatever having it means
@@ -73,11 +73,6 @@ module _ (k : ℕ) where
 -- what level v lacks by its marks and the rows left; the parent of its rows is p, and its place is o
 unfoldable pub lackWith : Book → ℕ → ℕ → List ℕ → ℕ → ℕ → List Item → ℕ
 lackWith b k v m p o es = missing k (either m p es) o (listing b v)
-
-no-mark : (n j : ℕ) → _≡_ {A = ℕ} (getD (replicate n 0) j 0) 0
-no-mark zero j = refl
-no-mark (suc n) zero = refl
-no-mark (suc n) (suc j) = no-mark n j
 
 module _ (b : Book) (k v p o : ℕ) where
   pub by-marks : (m : List ℕ) → lackWith b k v m p o [] ≡ lackOf b k v m o

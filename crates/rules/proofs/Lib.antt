@@ -9,6 +9,7 @@ pub mod Places
 pub mod Header
 pub mod Readings
 pub mod Repeats
+pub mod Earlier
 pub mod Covers
 pub mod Book
 pub mod Program

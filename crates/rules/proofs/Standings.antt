@@ -6,16 +6,22 @@ use mathlib.Core.Path.{_≡_, refl, sym, ap, _∙_}
 use mathlib.Core.Logic.{_≢_}
 use mathlib.Core.Bool.{Bool, true, false, cond, not, _&&_, _||_}
 use mathlib.Core.List.{List}
-use Prim.Native.Nat.{ℕ, _+_, _≤_, _<_}
+use Prim.Native.Nat.{ℕ, zero, suc, _+_, _≤_, _<_}
 use native.Mathlib.Omega.{arith}
 use native.Mathlib.Decide.{ℕ-discrete, decLt}
 use borrow.Author.Tests.{ltb-true, lt-ltb, eqb-true, eqb-false, eq-eqb, ne-eqb}
 use lib.Dec.{eqb, ltb}
-use lib.ListN.{length, getD, set, length-set}
+use lib.ListN.{length, getD, replicate, set, length-set}
 use lib.Seq.{getD-set-same, getD-set-other, set-out}
 use Rattle.rules.specs.Listings.{Book, Line, listing}
 use Rattle.rules.specs.Standing.{kept, unexpected, repeated, short, mostLines, lineNumber, lineIn, isListed, stoodEarlier, isShort, standing, markAfter, marked, entered}
 use Rattle.rules.specs.declared.Head.{Head}
+
+-- before the first element of a level
+pub no-mark : (n j : ℕ) → _≡_ {A = ℕ} (getD (replicate n 0) j 0) 0
+no-mark zero j = refl
+no-mark (suc n) zero = refl
+no-mark (suc n) (suc j) = no-mark n j
 
 some-mark : (a c : Bool) → _≢_ {A = ℕ} (cond (a || c) 2 1) 0
 some-mark true c e = omega arith
