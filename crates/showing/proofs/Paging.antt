@@ -16,16 +16,11 @@ use Rattle.rules.specs.Answers.{Judged, Masked}
 use Rattle.rules.specs.declared.Verdict.{Verdict}
 use Rattle.rules.proofs.Book.{book-sound}
 use Rattle.promises.proofs.Copies.{copy-length}
+use Rattle.judging.proofs.Deciding.{refusing, accepting}
 use Rattle.wording.specs.Puts.{Puts}
 use Rattle.wording.proofs.Puts.{puts-start, puts-same}
 use Rattle.phrases.specs.Words.{words}
 use Rattle.showing.specs.Showing.{unread, lacking, accepted, seenBy, readPage, page, pageOn, tableRoom, copyRoom, shownText, Shown}
-
-pub does-refuse : (v : Verdict) → (v .code ≡ 0 → ⊥) → refuses v ≡ true
-does-refuse v n = lt-ltb 0 (v .code) (omega arith)
-
-pub does-not : (v : Verdict) → v .code ≡ 0 → refuses v ≡ false
-does-not v e = le-ltb 0 (v .code) (omega arith)
 
 pub front-room : (n c : ℕ) → n ≤ c → take n (replicate {A = ℕ} c 0) ≡ replicate n 0
 front-room zero c l = refl
@@ -70,11 +65,11 @@ module _ (names : List ℕ) (k : ℕ) (right : Bool) (m copy : List ℕ) {table�
     read-lacking n seen s p = by-judge (lacks (subst (λ t. Puts (lacking names k v copy t) 0 out r out′) s p))
       where
         lacks : Puts (lacking names k v copy (seenBy right m copy)) 0 out r out′ → Puts (readPage names k right v table′ m copy) 0 out r out′
-        lacks = read-refused names k right m copy table′ v (does-refuse v n)
+        lacks = read-refused names k right m copy table′ v (refusing v n)
 
     pub read-accepted : v .code ≡ 0 → Puts (accepted names k table′ (length m) copy (seenBy right m copy)) 0 out r out′
         → Puts (readPage names k right (judgeVerdict book k m (used mostRows)) (judgeTable book k m tableRoom) m copy) 0 out r out′
-    read-accepted z p = by-judge (read-passed names k right m copy table′ v (does-not v z) p)
+    read-accepted z p = by-judge (read-passed names k right m copy table′ v (accepting v z) p)
 
 -- ---- after the masker, with a copy of zeros as long as the message
 
@@ -84,19 +79,19 @@ module _ (names : List ℕ) (k : ℕ) (right : Bool) (m : List ℕ) {copy₀ cop
 
   pub copy-short : length m ≤ 4097 → v .code ≡ 0 → length copy′ ≤ 4097
   copy-short l z =
-      let ok : refuses (maskVerdict book k m (length copy₀)) ≡ false = rw (← x .answers) (does-not v z) in
+      let ok : refuses (maskVerdict book k m (length copy₀)) ≡ false = rw (← x .answers) (accepting v z) in
       let same = ap length (x .copy-left) ∙ copy-length book book-sound k m copy₀ ok ∙ ap length e ∙ length-replicate {A = ℕ} (length m) 0 in
       omega arith
 
   module _ {r : ℕ} {out out′ : List ℕ} where
     pub page-unread : (v .code ≡ 0 → ⊥) → Puts (unread names k (length m) v) 0 out r out′ → Puts (pageOn names k right m) 0 out r out′
     unfolding pageOn page
-    page-unread n p = rw (← masks, does-refuse v n) p
+    page-unread n p = rw (← masks, refusing v n) p
 
     pub page-read : v .code ≡ 0 → Puts (readPage names k right (judgeVerdict book k m (used mostRows)) (judgeTable book k m tableRoom) m copy′) 0 out r out′
         → Puts (pageOn names k right m) 0 out r out′
     unfolding pageOn page
-    page-read z p = rw (← masks, does-not v z, ← (x .copy-left ∙ ap (maskCopy book k m) e)) p
+    page-read z p = rw (← masks, accepting v z, ← (x .copy-left ∙ ap (maskCopy book k m) e)) p
 
 -- ---- the input
 
