@@ -4,8 +4,9 @@
  * Both functions answer for every input and ask only this of their caller:
  *   - each pointer is valid for the length that follows it, in octets; NULL is fine with length 0;
  *   - a buffer that is written (table, copy, five) overlaps nothing else that is passed.
- * They keep nothing between calls, allocate nothing, and may be called from several threads at once.
- * Stack: under 16 KiB a call.
+ *   - the message does not change during a call, as a ring's buffer does that is refilled while it is read.
+ * They keep nothing between calls, allocate nothing, call nothing but memset, and may be called from several threads at once.
+ * For x86-64 alone. Stack: under 15 KiB a call, and on the first call about 2 KiB more where the loader binds memset late.
  */
 #ifndef WOKSHIMMER_H
 #define WOKSHIMMER_H
@@ -65,9 +66,12 @@ extern "C" {
 uint16_t wok_judge(uint32_t kind, const uint8_t *message, size_t message_len, uint8_t *table, size_t table_len, uint8_t *five, size_t five_len);
 
 /*
- * Makes a masked copy of a message: every octet that tells of the subscriber is zero, every other one is the message's own. Answers the
- * code: 1 to 9, 13, or 0 where the copy is made, also where the judge would say 10, 11 or 12. The copy, judged, gets the message's own
- * verdict and table. Octets past the message's length stay; on a refusal the whole copy stays as it was. The five numbers as above.
+ * Makes a masked copy of a message: every octet that the rules cover is zero, every other one is the message's own. Covered are the values of
+ * IMSI (1), MEI (75), MSISDN (76), PCO (78), User Location Information (86) and private extensions (255), the address in PDN Address
+ * Allocation (79), and all values of standing WOK_UNEXPECTED and WOK_REPEATED. NOT covered are APN, TEIDs, F-TEID addresses, traffic filters
+ * and whatever else: docs/COVERED.md.
+ * Answers the code: 1 to 9, 13, or 0 where the copy is made; 10, 11 and 12 do not stop it. The copy, judged, gets the message's own verdict
+ * and table. Octets past the message's length stay; on a refusal the whole copy stays as it was. The five numbers as above.
  */
 uint16_t wok_mask(uint32_t kind, const uint8_t *message, size_t message_len, uint8_t *copy, size_t copy_len, uint8_t *five, size_t five_len);
 

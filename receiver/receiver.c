@@ -1,16 +1,21 @@
 /*
  * A receiver of GTPv2-C over UDP and IPv4: receiver [--answer] [PORT1 PORT2 PORT3]
  *
+ * Build it from the project's folder, after `rt staticlib wokshimmer` (receiver/build does this too):
+ *   gcc -std=c99 -O2 -Iinclude -o receiver receiver/receiver.c target/staticlib/libwokshimmer.a -lpthread
+ *
  * One port a kind, S11, S4 and S5/S8; 0, and no ports at all, let the system choose. The first line names the ports. Every datagram is
  * judged and masked; a line of counts comes every second and, on SIGTERM or SIGINT, a last one:
  *   counts|total datagrams N judge (by code, 0 to 13) mask (by code, 0 to 13) copy (octets of the last masked copy)
+ *   dropped (datagrams that came and found the socket's buffer full)
  * With --answer each datagram is answered by the five numbers of the judge and of the mask. This is for tests, so the receiver then
  * listens on loopback only.
  */
-#define _POSIX_C_SOURCE 200809L
+#define _GNU_SOURCE
 
 #include <arpa/inet.h>
 #include <errno.h>
+#include <linux/sock_diag.h>
 #include <netinet/in.h>
 #include <poll.h>
 #include <pthread.h>
@@ -94,6 +99,15 @@ static void *receive(void *unused) {
     return NULL;
 }
 
+/* The datagrams that the system dropped since the port was opened, for want of room in its buffer. */
+static unsigned long dropped(int port) {
+    uint32_t memory[SK_MEMINFO_VARS];
+    socklen_t len = sizeof memory;
+    memset(memory, 0, sizeof memory);
+    if (getsockopt(port, SOL_SOCKET, SO_MEMINFO, memory, &len) != 0) return 0;
+    return memory[SK_MEMINFO_DROPS];
+}
+
 static void print_counts(const char *name) {
     pthread_mutex_lock(&lock);
     struct counts now = counts;
@@ -102,7 +116,9 @@ static void print_counts(const char *name) {
     for (int code = 0; code < CODES; code++) printf(" %lu", now.judge[code]);
     printf(" mask");
     for (int code = 0; code < CODES; code++) printf(" %lu", now.mask[code]);
-    printf(" copy %lu\n", (unsigned long)now.copy_len);
+    unsigned long lost = 0;
+    for (int i = 0; i < KINDS; i++) lost += dropped(ports[i].fd);
+    printf(" copy %lu dropped %lu\n", (unsigned long)now.copy_len, lost);
     fflush(stdout);
 }
 
@@ -117,7 +133,10 @@ static unsigned open_port(struct pollfd *port, uint16_t number) {
     port->fd = socket(AF_INET, SOCK_DGRAM, 0);
     port->events = POLLIN;
     if (port->fd < 0) fail("socket");
-    if (bind(port->fd, (struct sockaddr *)&own, sizeof own) != 0) fail("bind");
+    if (bind(port->fd, (struct sockaddr *)&own, sizeof own) != 0) {
+        fprintf(stderr, "port %u: %s\n", (unsigned)number, strerror(errno));
+        exit(1);
+    }
     if (getsockname(port->fd, (struct sockaddr *)&own, &own_len) != 0) fail("getsockname");
     return ntohs(own.sin_port);
 }

@@ -1,25 +1,76 @@
 //! Independent second program for the GTPv2-C judge and masker of document 01.
 //!
-//! It is written from the document alone and serves as a comparison: first for
-//! correctness, later for speed. The modules follow the document's sections.
+//! It is written from the document alone and serves as a comparison, for
+//! correctness and for speed. `rules` is the shape of the rules and `document`
+//! their figures; the other modules follow the document's sections, as methods
+//! of `Rules`. The functions here go by the document's own figures.
 
-pub mod framing;
+mod checks;
+mod document;
+mod framing;
 pub mod generate;
-pub mod judge;
+mod judge;
 pub mod lines;
 pub mod listings;
-pub mod lookup;
-pub mod mask;
-pub mod octets;
-pub mod program;
-pub mod table;
-pub mod types;
-pub mod verdict;
+mod lookup;
+mod mask;
+mod octets;
+mod program;
+pub mod rules;
+mod table;
+mod verdict;
 pub mod walk;
 
-pub use judge::judge;
-pub use lookup::{desk, desk_found, plain, plain_found};
-pub use mask::{covered, mask};
-pub use octets::{judge_octets, mask_octets};
-pub use program::program;
+pub use document::DOCUMENT;
+pub use rules::Rules;
 pub use verdict::Verdict;
+
+/// Judges one whole message.
+pub fn judge(kind: u32, message: &[u8], table: &mut [u16]) -> Verdict {
+    DOCUMENT.judge(kind, message, table)
+}
+
+/// Writes the masked copy of a message.
+pub fn mask(kind: u32, message: &[u8], copy: &mut [u8]) -> Verdict {
+    DOCUMENT.mask(kind, message, copy)
+}
+
+/// The judge for the C receiver.
+pub fn judge_octets(kind: u32, message: &[u8], table: &mut [u8], five: &mut [u8]) -> u16 {
+    DOCUMENT.judge_octets(kind, message, table, five)
+}
+
+/// The masker for the C receiver.
+pub fn mask_octets(kind: u32, message: &[u8], copy: &mut [u8], five: &mut [u8]) -> u16 {
+    DOCUMENT.mask_octets(kind, message, copy, five)
+}
+
+/// The plain lookup; the empty part where there is none.
+pub fn plain<'a>(typ: u16, inst: u16, message: &'a [u8], table: &[u16]) -> &'a [u8] {
+    let part = DOCUMENT.plain_part(typ, inst, message, table);
+    part.unwrap_or_default()
+}
+
+/// Does the plain lookup answer a row's part, be it empty?
+pub fn plain_found(typ: u16, inst: u16, message: &[u8], table: &[u16]) -> bool {
+    let part = DOCUMENT.plain_part(typ, inst, message, table);
+    part.is_some()
+}
+
+/// The desk's lookup; the empty part where there is none.
+pub fn desk<'a>(
+    row: usize,
+    right: bool,
+    message: &'a [u8],
+    copy: &'a [u8],
+    table: &[u16],
+) -> &'a [u8] {
+    let part = DOCUMENT.desk_part(row, right, message, copy, table);
+    part.unwrap_or_default()
+}
+
+/// Does the desk's lookup answer a row's part, be it empty?
+pub fn desk_found(row: usize, right: bool, message: &[u8], copy: &[u8], table: &[u16]) -> bool {
+    let part = DOCUMENT.desk_part(row, right, message, copy, table);
+    part.is_some()
+}

@@ -17,6 +17,7 @@ use std::fmt::Write;
 use std::str::FromStr;
 
 use crate::generate::{Ask, Case, Lookup};
+use crate::rules::Rules;
 
 const EMPTY: &str = "-";
 
@@ -62,8 +63,8 @@ pub fn lookup_line(lookup: &Lookup) -> String {
     }
 }
 
-pub fn answer_line(lookup: &Lookup) -> String {
-    match lookup.answer() {
+pub fn answer_line(rules: &Rules, lookup: &Lookup) -> String {
+    match lookup.answer(rules) {
         Some(part) => format!("1 {}", hex(part)),
         None => "0 ".into(),
     }

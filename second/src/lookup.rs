@@ -3,7 +3,8 @@
 //! The table is taken as lent: only its first number and its rows are read,
 //! and nothing in it is believed before it is tested.
 
-use crate::table::{HEADER, PER_ROW};
+use crate::rules::Rules;
+use crate::table::COLUMNS;
 
 /// One row as it stands in a lent table.
 #[derive(Clone, Copy)]
@@ -17,7 +18,7 @@ struct Entry {
 }
 
 impl Entry {
-    fn of(&[parent, typ, inst, place, length, standing]: &[u16; PER_ROW]) -> Self {
+    fn of(&[parent, typ, inst, place, length, standing]: &[u16; COLUMNS]) -> Self {
         Self {
             parent,
             typ,
@@ -34,61 +35,53 @@ impl Entry {
     }
 }
 
-/// The rows of a lent table, or none if it is shorter than it says.
-fn rows(table: &[u16]) -> Option<&[[u16; PER_ROW]]> {
-    let (header, rest) = table.split_first_chunk::<HEADER>()?;
-    let (rows, _) = rest.as_chunks::<PER_ROW>();
-    rows.get(..usize::from(header[0]))
-}
-
-/// The value of the first kept row with parent 0 and that pair, if any. That
-/// row alone decides: where its part is not in the message no other is tried.
-pub fn plain_part<'a>(typ: u16, inst: u16, message: &'a [u8], table: &[u16]) -> Option<&'a [u8]> {
-    rows(table)?
-        .iter()
-        .map(Entry::of)
-        .find(|row| row.standing == 0 && row.parent == 0 && row.typ == typ && row.inst == inst)?
-        .value(message)
-}
-
-/// The value of a row, counted from 0: the message's for the right to see
-/// subscribers, else the copy's.
-pub fn desk_part<'a>(
-    row: usize,
-    right: bool,
-    message: &'a [u8],
-    copy: &'a [u8],
-    table: &[u16],
-) -> Option<&'a [u8]> {
-    if message.len() != copy.len() {
-        return None;
+impl Rules {
+    /// How many rows a lent table has, or none if it is shorter than it says.
+    fn count(&self, table: &[u16]) -> Option<usize> {
+        let header = table.get(..self.sizes.table_header)?;
+        let rows = usize::from(*header.first()?);
+        (table.len() >= self.used(rows)).then_some(rows)
     }
-    let entry = Entry::of(rows(table)?.get(row)?);
-    entry.value(if right { message } else { copy })
-}
 
-/// The plain lookup; the empty part where there is none.
-pub fn plain<'a>(typ: u16, inst: u16, message: &'a [u8], table: &[u16]) -> &'a [u8] {
-    plain_part(typ, inst, message, table).unwrap_or_default()
-}
+    fn entry(&self, table: &[u16], row: usize) -> Option<Entry> {
+        table.get(self.used(row)..)?.first_chunk().map(Entry::of)
+    }
 
-/// Does the plain lookup answer a row's part, be it empty?
-pub fn plain_found(typ: u16, inst: u16, message: &[u8], table: &[u16]) -> bool {
-    plain_part(typ, inst, message, table).is_some()
-}
+    /// The value that the message has for a pair, by the table's first row that
+    /// is kept, has no parent and is of that pair. No row after it is tried,
+    /// also where its part is not in the message.
+    pub fn plain_part<'a>(
+        &self,
+        typ: u16,
+        inst: u16,
+        message: &'a [u8],
+        table: &[u16],
+    ) -> Option<&'a [u8]> {
+        (0..self.count(table)?)
+            .map_while(|row| self.entry(table, row))
+            .find(|row| self.is_plain(row) && row.typ == typ && row.inst == inst)?
+            .value(message)
+    }
 
-/// The desk's lookup; the empty part where there is none.
-pub fn desk<'a>(
-    row: usize,
-    right: bool,
-    message: &'a [u8],
-    copy: &'a [u8],
-    table: &[u16],
-) -> &'a [u8] {
-    desk_part(row, right, message, copy, table).unwrap_or_default()
-}
+    fn is_plain(&self, row: &Entry) -> bool {
+        row.standing == self.lookups.standing && row.parent == self.lookups.parent
+    }
 
-/// Does the desk's lookup answer a row's part, be it empty?
-pub fn desk_found(row: usize, right: bool, message: &[u8], copy: &[u8], table: &[u16]) -> bool {
-    desk_part(row, right, message, copy, table).is_some()
+    /// The value of a row, counted from 0: the message's for the right to see
+    /// subscribers, else the copy's.
+    pub fn desk_part<'a>(
+        &self,
+        row: usize,
+        right: bool,
+        message: &'a [u8],
+        copy: &'a [u8],
+        table: &[u16],
+    ) -> Option<&'a [u8]> {
+        let lengths = message.len().cmp(&copy.len());
+        if !self.lookups.lengths.contains(&lengths) || row >= self.count(table)? {
+            return None;
+        }
+        let entry = self.entry(table, row)?;
+        entry.value(if right { message } else { copy })
+    }
 }

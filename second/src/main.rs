@@ -6,8 +6,8 @@ use std::path::Path;
 use std::process::ExitCode;
 
 use second::generate::{Case, Generator};
-use second::types::{Cover, Least, TYPES};
-use second::{lines, listings, program};
+use second::rules::{Cover, Least};
+use second::{lines, DOCUMENT};
 
 const USAGE: &str = "usage: second judge | mask | lookup | generate SEED COUNT [DIR] \
                      | lookups SEED COUNT | listings | types";
@@ -49,13 +49,13 @@ fn input() -> io::Result<Vec<u8>> {
 }
 
 fn judge(out: &mut impl Write) -> Outcome {
-    out.write_all(program(&input()?).as_bytes())?;
+    out.write_all(DOCUMENT.program(&input()?).as_bytes())?;
     Ok(ExitCode::SUCCESS)
 }
 
 /// The masked copy goes out raw, a refusal to standard error.
 fn mask(out: &mut impl Write) -> Outcome {
-    match second::program::mask_program(&input()?) {
+    match DOCUMENT.mask_program(&input()?) {
         Ok(copy) => {
             out.write_all(&copy)?;
             Ok(ExitCode::SUCCESS)
@@ -70,7 +70,7 @@ fn mask(out: &mut impl Write) -> Outcome {
 fn lookup(out: &mut impl Write) -> Outcome {
     for line in io::stdin().lock().lines() {
         let lookup = lines::lookup(&line?)?;
-        writeln!(out, "{}", lines::answer_line(&lookup))?;
+        writeln!(out, "{}", lines::answer_line(&DOCUMENT, &lookup))?;
     }
     Ok(ExitCode::SUCCESS)
 }
@@ -79,24 +79,22 @@ fn generate(seed: u64, count: usize, dir: Option<&str>, out: &mut impl Write) ->
     if let Some(dir) = dir {
         fs::create_dir_all(dir)?;
     }
-    for (number, case) in Generator::new(seed).take(count).enumerate() {
-        writeln!(out, "{}", lines::case_line(&case))?;
+    for (number, case) in Generator::new(seed).inputs(count).iter().enumerate() {
+        writeln!(out, "{}", lines::case_line(case))?;
         if let Some(dir) = dir {
-            write_input(Path::new(dir), number, &case)?;
+            write_input(Path::new(dir), number, case)?;
         }
     }
     Ok(ExitCode::SUCCESS)
 }
 
-/// Writes a case as the judge program reads it. A kind over 255 has no such
-/// form, and its number is left out.
+/// A kind over 255 has no form that the judge program reads, and its number is
+/// left out.
 fn write_input(dir: &Path, number: usize, case: &Case) -> io::Result<()> {
-    let Ok(kind) = u8::try_from(case.kind) else {
-        return Ok(());
-    };
-    let mut input = vec![kind];
-    input.extend(&case.message);
-    fs::write(dir.join(format!("{number:06}.in")), input)
+    match case.input() {
+        Some(input) => fs::write(dir.join(format!("{number:06}.in")), input),
+        None => Ok(()),
+    }
 }
 
 fn lookups(seed: u64, count: usize, out: &mut impl Write) -> Outcome {
@@ -108,25 +106,28 @@ fn lookups(seed: u64, count: usize, out: &mut impl Write) -> Outcome {
 }
 
 fn listings(out: &mut impl Write) -> Outcome {
-    for line in listings::lines() {
-        writeln!(out, "{line}")?;
+    for message in &DOCUMENT.messages {
+        writeln!(out, "{message}")?;
+        for line in message.lines() {
+            writeln!(out, "{line}")?;
+        }
     }
     Ok(ExitCode::SUCCESS)
 }
 
 fn types(out: &mut impl Write) -> Outcome {
-    for (typ, facts) in TYPES.iter().enumerate() {
-        let least = match facts.least {
+    for (typ, facts) in DOCUMENT.types.iter().enumerate() {
+        let least = match &facts.least {
             Least::Fixed(least) => least.to_string(),
-            Least::PdnType | Least::AddressFlags => "first".into(),
+            Least::ByFirst(by) => format!("{:?}", by.least).replace(' ', ""),
         };
         let group = if facts.group { "group" } else { "-" };
-        let cover = match facts.cover {
+        let cover = facts.cover.map(|cover| match cover {
             Cover::Nothing => "-",
             Cover::Rest => "rest",
             Cover::Whole => "whole",
-        };
-        writeln!(out, "{typ} {least} {group} {cover}")?;
+        });
+        writeln!(out, "{typ} {least} {group} {}", cover.join(" "))?;
     }
     Ok(ExitCode::SUCCESS)
 }

@@ -3,54 +3,55 @@
 
 use std::fmt::Write;
 
-use crate::framing::LONGEST_MESSAGE;
-use crate::judge::judge;
-use crate::mask::mask;
-use crate::table::{used, HEADER, MOST_ROWS, PER_ROW};
+use crate::rules::Rules;
+use crate::table::COLUMNS;
 use crate::verdict::Verdict;
 
-/// What the judge program prints.
-pub fn program(input: &[u8]) -> String {
-    let (kind, message) = split(input);
-    let mut table = [0; used(MOST_ROWS)];
-    let verdict = judge(kind, message, &mut table);
-    if verdict.accepted() {
-        accept(&table)
-    } else {
-        refuse(verdict)
-    }
-}
-
-/// The masked copy, or the line of the refusal.
-pub fn mask_program(input: &[u8]) -> Result<Vec<u8>, String> {
-    let (kind, message) = split(input);
-    let mut copy = vec![0; message.len()];
-    let verdict = mask(kind, message, &mut copy);
-    if verdict.accepted() {
-        Ok(copy)
-    } else {
-        Err(refuse(verdict))
-    }
-}
-
-/// Kind and message. One octet past the longest message is enough to refuse it.
-fn split(input: &[u8]) -> (u32, &[u8]) {
-    match input {
-        [] => (0, &[]),
-        [kind, message @ ..] => {
-            let length = message.len().min(LONGEST_MESSAGE + 1);
-            (u32::from(*kind), &message[..length])
+impl Rules {
+    /// What the judge program prints.
+    pub fn program(&self, input: &[u8]) -> String {
+        let (kind, message) = self.split(input);
+        let mut table = vec![0; self.used(self.sizes.most_rows)];
+        let verdict = self.judge(kind, message, &mut table);
+        if verdict.accepted() {
+            self.accept(&table)
+        } else {
+            refuse(verdict)
         }
     }
-}
 
-fn accept(table: &[u16]) -> String {
-    let rows = usize::from(table[0]);
-    let mut text = format!("accept {rows} {}\n", table[1]);
-    for row in table[HEADER..].chunks_exact(PER_ROW).take(rows) {
-        push_line(&mut text, row);
+    /// The masked copy, or the line of the refusal.
+    pub fn mask_program(&self, input: &[u8]) -> Result<Vec<u8>, String> {
+        let (kind, message) = self.split(input);
+        let mut copy = vec![0; message.len()];
+        let verdict = self.mask(kind, message, &mut copy);
+        if verdict.accepted() {
+            Ok(copy)
+        } else {
+            Err(refuse(verdict))
+        }
     }
-    text
+
+    /// Kind and message. One octet past the longest message is enough to
+    /// refuse it.
+    fn split<'a>(&self, input: &'a [u8]) -> (u32, &'a [u8]) {
+        match input {
+            [] => (0, &[]),
+            [kind, message @ ..] => {
+                let length = message.len().min(self.sizes.longest + 1);
+                (u32::from(*kind), &message[..length])
+            }
+        }
+    }
+
+    fn accept(&self, table: &[u16]) -> String {
+        let rows = usize::from(table[0]);
+        let mut text = format!("accept {rows} {}\n", table[1]);
+        for row in 0..rows {
+            push_line(&mut text, &table[self.used(row)..][..COLUMNS]);
+        }
+        text
+    }
 }
 
 fn refuse(verdict: Verdict) -> String {

@@ -1,17 +1,7 @@
 //! Standing of an element: one walk over a message in octet order.
 
-use crate::framing::{self, Element, ELEMENT_HEADER};
-use crate::listings::{self, Listed, MESSAGES};
-use crate::types;
-use crate::verdict::Verdict;
-
-#[derive(Debug, Clone, Copy, PartialEq, Eq)]
-pub enum Standing {
-    Kept = 0,
-    Unexpected = 1,
-    Repeated = 2,
-    Short = 3,
-}
+use crate::framing::{self, Broken, Element, ELEMENT_HEADER};
+use crate::rules::{position, Listed, Rules, Standing};
 
 /// One element met.
 #[derive(Debug, Clone, Copy, PartialEq, Eq)]
@@ -37,37 +27,17 @@ impl Row {
 
 /// One occurrence of a level: the message, or one kept group.
 #[derive(Debug)]
-pub struct Level {
+pub struct Level<'r> {
     /// The group's first octet, or 0 for the message.
     pub place: u16,
-    pub listing: &'static [Listed],
+    pub listing: &'r [Listed],
     /// The positions in the listing that were met, one bit each.
     seen: u32,
     kept: u32,
 }
 
-const _: () = {
-    let mut message = 0;
-    while message < MESSAGES.len() {
-        assert!(fits_the_bits(MESSAGES[message].body));
-        message += 1;
-    }
-};
-
-/// Has a level a bit for each position of this listing and of those inside it?
-const fn fits_the_bits(listing: &[Listed]) -> bool {
-    let mut position = 0;
-    while position < listing.len() {
-        if !fits_the_bits(listing[position].inside) {
-            return false;
-        }
-        position += 1;
-    }
-    listing.len() <= u32::BITS as usize
-}
-
-impl Level {
-    fn new(place: u16, listing: &'static [Listed]) -> Self {
+impl<'r> Level<'r> {
+    fn new(place: u16, listing: &'r [Listed]) -> Self {
         Self {
             place,
             listing,
@@ -77,7 +47,7 @@ impl Level {
     }
 
     /// The first mandatory pair in listing order that has no kept row here.
-    pub fn first_missing(&self, kind: u32) -> Option<&'static Listed> {
+    pub fn first_missing(&self, kind: u32) -> Option<&'r Listed> {
         let mut listed = self.listing.iter().enumerate();
         let (_, missing) = listed.find(|(position, listed)| {
             listed.mandatory && listed.kinds.has(kind) && self.kept & 1 << position == 0
@@ -88,12 +58,12 @@ impl Level {
     /// The standing of the next element here, with its line if it is listed.
     fn stand(
         &mut self,
+        rules: &Rules,
         kind: u32,
         element: &Element,
         value: &[u8],
-    ) -> (Standing, Option<&'static Listed>) {
-        let Some(position) = listings::position(self.listing, kind, element.typ, element.inst)
-        else {
+    ) -> (Standing, Option<&'r Listed>) {
+        let Some(position) = position(self.listing, kind, element.typ, element.inst) else {
             return (Standing::Unexpected, None);
         };
         let listed = &self.listing[position];
@@ -102,7 +72,7 @@ impl Level {
         self.seen |= bit;
         let standing = if earlier && !listed.many {
             Standing::Repeated
-        } else if value.len() < types::least(element.typ, value) {
+        } else if value.len() < rules.facts(element.typ).least(value) {
             Standing::Short
         } else {
             self.kept |= bit;
@@ -112,43 +82,69 @@ impl Level {
     }
 }
 
-/// All rows in octet order, and all levels by their first octet.
+/// Room that is made for rows and for levels at first.
+const A_FEW: usize = 8;
+
+/// One walk over a message and what it has met: all rows in octet order, and
+/// all levels by their first octet, up to where the framing is broken.
 #[derive(Debug)]
-pub struct Walk {
-    pub rows: Vec<Row>,
-    pub levels: Vec<Level>,
-}
-
-/// Checks 1 to 9, and what the walk met if none applies.
-pub fn walk(kind: u32, message: &[u8]) -> Result<Walk, Verdict> {
-    let header = framing::header(kind, message)?;
-    let mut walker = Walker {
-        kind,
-        message,
-        rows: Vec::new(),
-        levels: Vec::new(),
-    };
-    let body = Level::new(0, header.message.body);
-    walker.run(body, 0, header.length, message.len())?;
-    Ok(Walk {
-        rows: walker.rows,
-        levels: walker.levels,
-    })
-}
-
-struct Walker<'a> {
+pub struct Walk<'r, 'm> {
+    rules: &'r Rules,
     kind: u32,
-    message: &'a [u8],
-    rows: Vec<Row>,
-    levels: Vec<Level>,
+    message: &'m [u8],
+    pub rows: Vec<Row>,
+    pub levels: Vec<Level<'r>>,
+    /// Where the framing is broken, if it is.
+    pub broken: Option<u16>,
 }
 
-impl Walker<'_> {
+impl<'r, 'm> Walk<'r, 'm> {
+    /// Goes over all elements, by the listing of the body that begins at `at`.
+    pub fn new(
+        rules: &'r Rules,
+        kind: u32,
+        message: &'m [u8],
+        body: &'r [Listed],
+        at: usize,
+    ) -> Self {
+        let mut walk = Self {
+            rules,
+            kind,
+            message,
+            rows: Vec::with_capacity(A_FEW),
+            levels: Vec::with_capacity(A_FEW),
+            broken: None,
+        };
+        let whole = walk.run(Level::new(0, body), 0, at, message.len());
+        // A message of the longest length has no place over 16 bits.
+        walk.broken = whole.err().map(|Broken(place)| place as u16);
+        walk
+    }
+
+    /// The first mandatory element that is short. A repeat of a mandatory pair
+    /// is not short but repeated.
+    pub fn first_short(&self) -> Option<&Row> {
+        let mut rows = self.rows.iter();
+        rows.find(|row| row.mandatory && row.standing == Standing::Short)
+    }
+
+    /// The first mandatory pair without a kept row, and the level that wants it.
+    pub fn first_missing(&self) -> Option<(&Level<'r>, &'r Listed)> {
+        let mut levels = self.levels.iter();
+        levels.find_map(|level| Some((level, level.first_missing(self.kind)?)))
+    }
+
     /// Reads the run of elements of one level from `at` to `end`.
-    fn run(&mut self, level: Level, parent: u16, mut at: usize, end: usize) -> Result<(), Verdict> {
+    fn run(
+        &mut self,
+        level: Level<'r>,
+        parent: u16,
+        mut at: usize,
+        end: usize,
+    ) -> Result<(), Broken> {
         let number = self.levels.len();
         self.levels.push(level);
-        while let Some(element) = framing::element(self.message, at, end)? {
+        while let Some(element) = framing::element(self.rules, self.message, at, end)? {
             self.take(number, parent, &element)?;
             at = element.end();
         }
@@ -156,9 +152,9 @@ impl Walker<'_> {
     }
 
     /// Takes one element, and a kept group's inside after it.
-    fn take(&mut self, level: usize, parent: u16, element: &Element) -> Result<(), Verdict> {
+    fn take(&mut self, level: usize, parent: u16, element: &Element) -> Result<(), Broken> {
         let value = &self.message[element.place..element.end()];
-        let (standing, listed) = self.levels[level].stand(self.kind, element, value);
+        let (standing, listed) = self.levels[level].stand(self.rules, self.kind, element, value);
         let row = Row {
             parent,
             typ: element.typ,
@@ -170,8 +166,8 @@ impl Walker<'_> {
         };
         self.rows.push(row);
         match listed {
-            Some(listed) if standing == Standing::Kept && types::of(element.typ).group => {
-                let inside = Level::new(row.first_octet(), listed.inside);
+            Some(listed) if standing == Standing::Kept && self.rules.facts(element.typ).group => {
+                let inside = Level::new(row.first_octet(), &listed.inside);
                 let number = self.rows.len() as u16;
                 self.run(inside, number, element.place, element.end())
             }

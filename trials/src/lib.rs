@@ -1,5 +1,7 @@
 //! The proved library as Rust sees it: the two C exports behind safe functions.
 
+use second::generate::{Buffers, Case};
+
 mod exports {
     extern "C" {
         pub fn wok_judge(
@@ -55,32 +57,32 @@ pub fn mask(kind: u32, message: &[u8], copy: &mut [u8], five: &mut [u8]) -> u16 
     }
 }
 
-/// The lengths of buffers for the five numbers that are tried: none, one short, exact, longer.
-pub const FIVES: [usize; 5] = [10, 0, 9, 11, 13];
-
 /// Octets that show whether they were written over.
-pub fn filled(length: usize, seed: u64) -> Vec<u8> {
-    (0..length as u64)
-        .map(|at| (at.wrapping_mul(31).wrapping_add(seed.wrapping_mul(97)) % 251) as u8 | 1)
-        .collect()
+fn filled(length: usize, seed: usize) -> Vec<u8> {
+    let octet = |at: usize| (at.wrapping_mul(31).wrapping_add(seed.wrapping_mul(97)) % 251) as u8 | 1;
+    (0..length).map(octet).collect()
 }
 
-/// What differs between the two programs on one message, if anything does.
-pub fn difference(kind: u32, message: &[u8], table: usize, copy: usize, five: usize) -> Option<String> {
-    let seed = (table + 7 * copy + five) as u64;
-    let (mut ours, mut theirs) = (filled(table, seed), filled(table, seed));
-    let (mut five_ours, mut five_theirs) = (filled(five, seed), filled(five, seed));
-    let code = judge(kind, message, &mut ours, &mut five_ours);
-    let other = second::judge_octets(kind, message, &mut theirs, &mut five_theirs);
-    if code != other || ours != theirs || five_ours != five_theirs {
-        return Some(format!("judge: kind {kind} table {table} five {five}: {code} against {other}"));
+/// One of the two functions, of the library or of the second program: kind, message, table or copy, five numbers.
+pub type Call = fn(u32, &[u8], &mut [u8], &mut [u8]) -> u16;
+
+/// What differs between the two programs on one message with these buffers, if anything does.
+pub fn difference(case: &Case, lent: Buffers) -> Option<String> {
+    let judges = both(case, lent.table, lent.five, [judge, second::judge_octets]);
+    let masks = both(case, lent.copy, lent.five, [mask, second::mask_octets]);
+    let codes = |codes: [u16; 2]| format!("kind {} with {lent:?}: {} against {}", case.kind, codes[0], codes[1]);
+    match (judges, masks) {
+        (Some(found), _) => Some(format!("judge: {}", codes(found))),
+        (_, Some(found)) => Some(format!("mask: {}", codes(found))),
+        _ => None,
     }
-    let (mut ours, mut theirs) = (filled(copy, seed), filled(copy, seed));
-    let (mut five_ours, mut five_theirs) = (filled(five, seed), filled(five, seed));
-    let code = mask(kind, message, &mut ours, &mut five_ours);
-    let other = second::mask_octets(kind, message, &mut theirs, &mut five_theirs);
-    if code != other || ours != theirs || five_ours != five_theirs {
-        return Some(format!("mask: kind {kind} copy {copy} five {five}: {code} against {other}"));
-    }
-    None
+}
+
+/// The codes of both, if those or any octet that they leave differ.
+fn both(case: &Case, length: usize, five: usize, calls: [Call; 2]) -> Option<[u16; 2]> {
+    let [ours, theirs] = calls.map(|call| {
+        let (mut lent, mut five) = (filled(length, five), filled(five, length));
+        (call(case.kind, &case.message, &mut lent, &mut five), lent, five)
+    });
+    (ours != theirs).then_some([ours.0, theirs.0])
 }

@@ -1,69 +1,47 @@
 //! The proved library against the second program: every answer and every lent octet, with buffers around each boundary.
 
-use second::generate::{Case, Generator};
-use trials::{difference, FIVES};
+use second::generate::{figures, Case, Generator};
+use trials::difference;
 
-/// Every length of table and copy that is worth a try for this case, in turn.
-fn all_lengths(case: &Case) -> Option<String> {
-    for (turn, numbers) in case.table_lengths().into_iter().enumerate() {
-        let copies = case.copy_lengths();
-        let copy = copies[turn % copies.len()];
-        for odd in 0..2 {
-            let found = difference(case.kind, &case.message, 2 * numbers + odd, copy, FIVES[turn % FIVES.len()]);
-            if found.is_some() {
-                return found;
+/// Both trials of each case, and how often each code was met.
+fn compare(cases: impl IntoIterator<Item = Case>) -> [usize; 14] {
+    let mut codes = [0; 14];
+    for (seed, case) in cases.into_iter().enumerate() {
+        for lent in case.buffers(seed as u64) {
+            if let Some(what) = difference(&case, lent) {
+                panic!("{what}\n{}", second::lines::case_line(&case));
             }
         }
+        let mut table = [0; 12_272];
+        codes[usize::from(trials::judge(case.kind, &case.message, &mut table, &mut []))] += 1;
     }
-    None
+    codes
 }
 
-fn compare(count: usize, mut next: impl FnMut() -> Case) {
-    let mut codes = [0usize; 14];
-    for _ in 0..count {
-        let case = next();
-        if let Some(what) = all_lengths(&case) {
-            panic!("{what}\n{}", second::lines::case_line(&case));
-        }
-        let mut five = [0; 10];
-        trials::judge(case.kind, &case.message, &mut vec![0; 12272], &mut five);
-        codes[usize::from(five[1])] += 1;
+/// The messages of which second/tests/all/pinned.rs shows that they see any figure that is wrong, with the same buffers.
+#[test]
+fn every_figure() {
+    let codes = compare(figures());
+    for code in 0..=12 {
+        assert!(code == 10 || codes[code] >= 10, "{codes:?}");
     }
-    assert!(codes[0] > 0, "no message was accepted");
 }
 
 #[test]
 fn ten_thousand_of_the_mix() {
-    let mut generator = Generator::new(2029);
-    compare(10_000, || generator.case());
+    compare(Generator::new(2029).take(10_000));
 }
 
 #[test]
 fn damaged_ones() {
     let mut generator = Generator::new(4096);
-    let mut turn = 0;
-    compare(5_000, || {
-        turn += 1;
-        if turn % 2 == 0 {
-            generator.damaged()
-        } else {
-            generator.good()
-        }
-    });
+    compare((0..5_000).map(|_| generator.damaged()));
 }
 
 #[test]
 fn at_the_limits() {
     let mut generator = Generator::new(1022);
-    let mut turn = 0;
-    compare(400, || {
-        turn += 1;
-        if turn % 4 == 0 {
-            generator.good()
-        } else {
-            generator.at_limit()
-        }
-    });
+    compare((0..300).map(|_| generator.at_limit()));
 }
 
 /// An Echo Request with one value of `first` octets and then so many elements without one, and `cut` octets that are none.
@@ -84,32 +62,34 @@ fn around_the_small_scratch() {
     // Rows around 64, and around the 264 octets that cannot have more: read once into the small scratch, once into the large one at a
     // guess by the first siblings, or into both where a long value spoils the guess.
     for first in [0, 1, 40, 600, 3_000] {
-        for count in 40..80 {
-            for cut in 0..4 {
-                assert_eq!(all_lengths(&rows_after(first, count, cut)), None);
-            }
-        }
+        let counts = (40..80).flat_map(|count| (0..4).map(move |cut| (count, cut)));
+        compare(counts.map(|(count, cut)| rows_after(first, count, cut)));
     }
+}
+
+/// The samples, each with its name.
+fn samples() -> Vec<(String, Vec<u8>)> {
+    let folder = concat!(env!("CARGO_MANIFEST_DIR"), "/../samples");
+    let paths = std::fs::read_dir(folder).expect("samples/ is there").map(|entry| entry.expect("a file").path());
+    let paths = paths.filter(|path| path.extension().is_some_and(|ending| ending == "hex"));
+    let sample = |path: std::path::PathBuf| {
+        let text = std::fs::read_to_string(&path).expect("text");
+        (path.display().to_string(), second::lines::octets(&text).expect("hex"))
+    };
+    paths.map(sample).collect()
 }
 
 #[test]
 fn every_octet_of_every_sample_changed() {
-    let folder = concat!(env!("CARGO_MANIFEST_DIR"), "/../samples");
     let mut count = 0;
-    for entry in std::fs::read_dir(folder).expect("samples/ is there") {
-        let path = entry.expect("a file").path();
-        if path.extension().is_none_or(|ending| ending != "hex") {
-            continue;
-        }
-        let text = std::fs::read_to_string(&path).expect("text");
-        let digits: String = text.split_whitespace().collect();
-        let message = second::lines::octets(&digits).expect("hex");
+    for (name, message) in samples() {
         for at in 0..message.len() {
             for value in 0..=255 {
                 let mut changed = message.clone();
                 changed[at] = value;
                 for kind in 1..=3 {
-                    assert_eq!(difference(kind, &changed, 12272, 4096, 10), None, "{} at {at}: {value}", path.display());
+                    let case = Case { kind, message: changed.clone() };
+                    assert_eq!(difference(&case, case.enough()), None, "{name} at {at}: {value}");
                     count += 1;
                 }
             }

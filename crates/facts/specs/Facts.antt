@@ -1,4 +1,4 @@
--- What document 01 says of a type number, as a table with one entry for each, and how an entry is read. Assumes nothing.
+-- What the rules say of a type number, as a table with one entry for each, and how an entry is read. Assumes nothing.
 use mathlib.Core.Path.{_≡_}
 use mathlib.Core.Bool.{Bool, cond}
 use mathlib.Core.List.{List, [], _∷_}

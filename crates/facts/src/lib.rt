@@ -1,4 +1,4 @@
-// What document 01 says of a type number, one entry for each: the least value length (of 79 and 87 that of an empty value),
+// What the rules say of a type number, one entry for each: the least value length (of 79 and 87 that of an empty value),
 // plus 32 for a group, plus 64 times the cover for the type's sake.
 ghost use mathlib.Core.Path.{_≡_};
 ghost use Rattle.rules.specs.Types.{leastOf87, leastOf79};

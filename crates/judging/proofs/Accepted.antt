@@ -13,7 +13,7 @@ use lib.ListN.{length, take, drop, length-append}
 use lib.Seq.{take-at}
 use Rattle.rules.specs.Sizes.{mostRows, rowNumbers, used}
 use Rattle.rules.specs.Listings.{book}
-use Rattle.rules.specs.Table.{rowsOf, keptRows, header, tableOf, laid}
+use Rattle.rules.specs.Table.{rowsOf, keptRows, header, tableOf, numbersBy, laid}
 use Rattle.rules.specs.Verdicts.{refused, refuses, first, framingChecks, tableChecks, judgeChecks, judgeVerdict, judgeTable, items}
 use Rattle.rules.specs.Answers.{readingOf, decisionOf, Decided, Judged}
 use Rattle.rules.specs.declared.Verdict.{Verdict}
@@ -21,8 +21,8 @@ use Rattle.rules.specs.declared.Decision.{Decision}
 use Rattle.rules.proofs.Checks.{both-pass, check-off, AllPass, all-pass}
 use Rattle.rules.proofs.Rows.{rows-length, kept-most}
 use Rattle.rules.proofs.Readings.{few, count-is, kept-is, all-laid}
-use Rattle.judging.specs.Judging.{numbersOf, Settles, Settled}
-use Rattle.judging.proofs.Deciding.{refusing}
+use Rattle.judging.specs.Judging.{Settles, Settled}
+use Rattle.answers.proofs.Refusing.{refusing}
 
 -- the judge accepts, for a table of so many numbers, and the scratch holds what its table takes
 pub record Ready (k : ℕ) (m rows : List ℕ) (room : ℕ) (d : Decision) : Type 0 where
@@ -31,7 +31,7 @@ pub record Ready (k : ℕ) (m rows : List ℕ) (room : ℕ) (d : Decision) : Typ
   pub kept-few : d .kept ≤ d .rows
   pub there : rowNumbers * d .rows ≤ length rows
   pub fits : used (d .rows) ≤ room
-  pub numbers : numbersOf (d .rows) (d .kept) rows ≡ tableOf (items book k m)
+  pub numbers : numbersBy (d .rows) (d .kept) rows ≡ tableOf (items book k m)
 
 module _ (k : ℕ) (m : List ℕ) {rows rows′ : List ℕ} {room : ℕ} {d : Decision} (x : Decided k m rows room d rows′) where
   pub verdict-is : d .verdict ≡ judgeVerdict book k m room
@@ -95,6 +95,6 @@ module _ (k : ℕ) (m table : List ℕ) {rows rows′ : List ℕ} {d : Decision}
   unfolding judgeTable
   judged s = record { answers = s .answers ∙ verdict-is k m x; table-left = s .table-left ∙ go (refuses (d .verdict)) refl }
     where
-      go : (c : Bool) → refuses (d .verdict) ≡ c → cond c table (laid (numbersOf (d .rows) (d .kept) rows′) table) ≡ judgeTable book k m table
+      go : (c : Bool) → refuses (d .verdict) ≡ c → cond c table (laid (numbersBy (d .rows) (d .kept) rows′) table) ≡ judgeTable book k m table
       go true e = rw (← verdict-is k m x, e)
       go false e = let r = ready k m x (omega (arith, ltb-false 0 (d .verdict .code) e)) held in rw (r .accepts, r .numbers)

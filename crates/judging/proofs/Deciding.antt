@@ -15,13 +15,8 @@ use Rattle.rules.specs.Answers.{readingOf, decisionOf, Read, Decided}
 use Rattle.rules.specs.declared.Verdict.{Verdict}
 use Rattle.rules.specs.declared.Reading.{Reading}
 use Rattle.rules.proofs.Checks.{first-append}
+use Rattle.answers.proofs.Refusing.{refusing}
 use Rattle.judging.specs.Judging.{given}
-
-pub refusing : (v : Verdict) → (v .code ≡ 0 → ⊥) → refuses v ≡ true
-refusing v n = lt-ltb 0 (v .code) (pos-of-ne-zero n)
-
-pub accepting : (v : Verdict) → v .code ≡ 0 → refuses v ≡ false
-accepting v e = rw e
 
 module _ (r : Reading) (room : ℕ) where
   pub given-refused : (r .refusal .code ≡ 0 → ⊥) → r .refusal ≡ given r room

@@ -8,8 +8,8 @@ use native.Mathlib.Numerals.{add-one}
 use lib.ListN.{length, getD, set, take, drop, length-set}
 use lib.Seq.{length-take-le, drop-append-add, drop-drop, paste, paste-zero, paste-suc}
 use Rattle.rules.specs.Sizes.{used}
-use Rattle.rules.specs.Table.{laid}
-use Rattle.judging.specs.Judging.{numbersOf, Writable}
+use Rattle.rules.specs.Table.{numbersBy, laid}
+use Rattle.judging.specs.Judging.{Writable}
 
 -- what holds at each turn of the copying: i numbers of s stand in d after the header
 pub record Copying (d s : List ℕ) (n : ℕ) (now : List ℕ) (i : ℕ) : Type 0 where
@@ -32,11 +32,11 @@ module _ {d s : List ℕ} {n : ℕ} {now : List ℕ} {i : ℕ} (w : Copying d s 
   copy-end h = let e : i ≡ n = omega (arith, w .most) in rw (← e) (w .is)
 
 pub written : {n kept : ℕ} {rows table headed whole : List ℕ} → Writable n kept rows table → headed ≡ (n ∷ kept ∷ 4 ∷ used n ∷ []) ++ drop 4 table → whole ≡ paste headed 4 rows (6 * n)
-    → whole ≡ laid (numbersOf n kept rows) table
+    → whole ≡ laid (numbersBy n kept rows) table
 unfolding laid
 written {n} {kept} {rows} {table} {headed} {whole} w h e =
     let l : length (take (6 * n) rows) ≡ 6 * n = length-take-le (6 * n) rows (w .there) in
-    let x : length (numbersOf n kept rows) ≡ 4 + 6 * n = omega arith in
+    let x : length (numbersBy n kept rows) ≡ 4 + 6 * n = omega arith in
     e ∙ ap (λ (q : List ℕ). paste q 4 rows (6 * n)) h
-    ∙ ap (λ (q : List ℕ). numbersOf n kept rows ++ q)
+    ∙ ap (λ (q : List ℕ). numbersBy n kept rows ++ q)
     (drop-append-add (n ∷ kept ∷ 4 ∷ used n ∷ []) (drop 4 table) (6 * n) ∙ drop-drop (6 * n) 4 table ∙ ap (λ (j : ℕ). drop j table) (sym x))

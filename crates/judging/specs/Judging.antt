@@ -4,9 +4,9 @@ use Prim.Native.Nat.{ℕ, _*_, _≤_}
 use mathlib.Core.Bool.{cond}
 use mathlib.Core.List.{List, [], _∷_}
 use lib.Dec.{ltb}
-use lib.ListN.{length, take}
-use Rattle.rules.specs.Sizes.{mostRows, headerNumbers, rowNumbers, used}
-use Rattle.rules.specs.Table.{laid}
+use lib.ListN.{length}
+use Rattle.rules.specs.Sizes.{mostRows, rowNumbers, used}
+use Rattle.rules.specs.Table.{numbersBy, laid}
 use Rattle.rules.specs.Verdicts.{refused, check, refuses, first}
 use Rattle.rules.specs.declared.Verdict.{Verdict}
 use Rattle.rules.specs.declared.Reading.{Reading}
@@ -15,10 +15,6 @@ use Rattle.rules.specs.declared.Decision.{Decision}
 -- the verdict on a reading, for a table of so many numbers
 unfoldable pub given : Reading → ℕ → Verdict
 given r room = first (r .refusal ∷ check (ltb room (used (r .rows))) (refused 10 0) ∷ r .short ∷ r .lack ∷ [])
-
--- a table's numbers, from the rows and kept rows, and a scratch that has the rows at its start
-abbrev pub numbersOf : ℕ → ℕ → List ℕ → List ℕ
-numbersOf n kept rows = n ∷ kept ∷ headerNumbers ∷ used n ∷ take (rowNumbers * n) rows
 
 -- a table that can be written
 pub record Writable (n kept : ℕ) (rows table : List ℕ) : Type 0 where
@@ -34,4 +30,4 @@ Settles d rows table = d .verdict .code ≡ 0 → Writable (d .rows) (d .kept) r
 -- and is written then alone
 pub record Settled (d : Decision) (rows table : List ℕ) (answer : Verdict) (table′ : List ℕ) : Type 0 where
   pub answers : answer ≡ d .verdict
-  pub table-left : table′ ≡ cond (refuses (d .verdict)) table (laid (numbersOf (d .rows) (d .kept) rows) table)
+  pub table-left : table′ ≡ cond (refuses (d .verdict)) table (laid (numbersBy (d .rows) (d .kept) rows) table)

@@ -5,51 +5,12 @@ ghost use Prim.Native.Nat.{_+_, _≤_};
 ghost use lib.ListN.{length, drop};
 ghost use lib.Seq.{paste};
 ghost use Rattle.rules.specs.Sizes.{mostRows, used};
-ghost use Rattle.rules.specs.Table.{laid};
-ghost use Rattle.rules.specs.Verdicts.{accepted, refused, first};
+ghost use Rattle.rules.specs.Table.{numbersBy, laid};
 ghost use Rattle.rules.specs.Answers.{Decided, Judged};
-ghost use Rattle.judging.specs.Judging.{given, numbersOf, Writable, Settles, Settled};
+ghost use Rattle.judging.specs.Judging.{given, Writable, Settles, Settled};
 use rules::Decision;
 use rules::Reading;
 use rules::Verdict;
-
-fn accept() -> Verdict
-    ensures { λ r. ⌜ r ≡ accepted ⌝ }
-{
-    Verdict {
-        code: 0,
-        cause: 0,
-        place: 0,
-        typ: 0,
-        inst: 0,
-    }
-}
-
-// The table is shorter than the numbers used: 10.
-fn no_room() -> Verdict
-    ensures { λ r. ⌜ r ≡ refused 10 0 ⌝ }
-{
-    Verdict {
-        code: 10,
-        cause: 0,
-        place: 0,
-        typ: 0,
-        inst: 0,
-    }
-}
-
-// The first of two that refuses, or acceptance.
-fn first_of(a: Verdict, b: Verdict) -> Verdict
-    ensures { λ r. ⌜ r ≡ first (a ∷ b ∷ []) ⌝ }
-{
-    if a.code != 0 {
-        return a;
-    }
-    if b.code != 0 {
-        return b;
-    }
-    accept()
-}
 
 // The verdict on a reading, for a table of `room` numbers.
 fn verdict_on(r: Reading, room: usize) -> Verdict
@@ -61,9 +22,9 @@ fn verdict_on(r: Reading, room: usize) -> Verdict
         return refusal;
     }
     if room < 4 + 6 * r.rows {
-        return no_room();
+        return answers::refuse(10, 0);
     }
-    first_of(r.short, r.lack)
+    answers::first_of(r.short, r.lack)
 }
 
 // The verdict on a message for a table of `room` numbers, with its rows and kept rows; the rows themselves go to `rows`, as many as there
@@ -104,7 +65,7 @@ fn copy_rows(rows: &[u16], count: usize, table: &mut [u16])
 
 fn write_table(rows: &[u16], n: usize, kept: usize, table: &mut [u16])
     requires { ⌜ Writable n kept (now rows) (now table) ⌝ }
-    ensures { λ _. ⌜ now (table .exit) ≡ laid (numbersOf n kept (now (rows .entry))) (now (table .entry)) ⌝ }
+    ensures { λ _. ⌜ now (table .exit) ≡ laid (numbersBy n kept (now (rows .entry))) (now (table .entry)) ⌝ }
 {
     write_header(n, kept, table);
     copy_rows(rows, 6 * n, table);

@@ -1,80 +1,50 @@
 -- The lines put row by row are the lines of the items. Assumes nothing.
---     lines-start, lines-next, lines-end   the loop over the rows
---     lines-are                            the rows' numbers give the items' lines
+--     blanked-is, line-is   numbers put one after another are a line
+--     lines-are             the rows' numbers give the items' lines
 use mathlib.Core.Path.{_≡_, refl, sym, ap, _∙_}
-use mathlib.Core.List.{List, [], _∷_, _++_}
-use Prim.Native.Nat.{ℕ, zero, suc, _+_, _-_, _*_, _≤_, _<_}
+use mathlib.Core.List.{List, [], _∷_, _++_, append-assoc}
+use Prim.Native.Nat.{ℕ, suc, _+_, _-_, _*_, _<_}
 use native.Mathlib.Omega.{arith}
-use lib.ListN.{length, getD, length-append}
+use lib.ListN.{length, take, drop, getD, length-append}
+use lib.Seq.{take-length, take-append-seam, drop-at}
 use Rattle.rules.specs.Standing.{Item}
 use Rattle.rules.specs.Table.{row, rowsOf}
-use Rattle.rules.specs.Program.{line, rowLines}
-use Rattle.wording.specs.Puts.{Paper, puts, Puts}
-use Rattle.wording.proofs.Puts.{puts-append}
-use Rattle.lines.specs.Lines.{sixAt, linesFrom}
+use Rattle.rules.specs.Program.{decimal, blanked, line, rowLines}
+use Rattle.wording.specs.Pieces.{forEach}
+use Rattle.wording.proofs.Turns.{each-none, each-more}
+use Rattle.lines.specs.Lines.{sixOf, linesFrom}
 
--- what is left to put, put where it stands, is all put at the start
-pub record Lining (rows : List ℕ) (count at₀ : ℕ) (out₀ : List ℕ) (to : ℕ) (out : List ℕ) (n : ℕ) : Type 0 where
-  pub rest : puts (linesFrom rows n (count - n)) (record { at = to; out = out }) ≡ puts (linesFrom rows 0 count) (record { at = at₀; out = out₀ })
-  pub within : n ≤ count
+abbrev next : ℕ → List ℕ
+next n = 32 ∷ decimal n
 
-pub lines-start : (rows : List ℕ) (count at₀ : ℕ) (out₀ : List ℕ) → Lining rows count at₀ out₀ at₀ out₀ 0
-lines-start rows count at₀ out₀ = record { rest = ap (λ c. puts (linesFrom rows 0 c) (record { at = at₀; out = out₀ })) (omega arith); within = omega arith }
+pub blanked-is : (ns : List ℕ) → forEach (λ i. 32 ∷ decimal (getD ns i 0)) 0 (length ns) ++ (10 ∷ []) ≡ blanked ns
+unfolding blanked
+blanked-is [] = ap (_++ (10 ∷ [])) (each-none next)
+blanked-is (n ∷ ns) =
+    ap (_++ (10 ∷ [])) (each-more next n ns)
+    ∙ append-assoc (next n) (forEach (λ i. next (getD ns i 0)) 0 (length ns)) (10 ∷ [])
+    ∙ ap (next n ++_) (blanked-is ns)
 
-one-more : (rows : List ℕ) (i d d′ : ℕ) → d ≡ suc d′ → linesFrom rows i d ≡ line (sixAt rows (6 * i)) ++ linesFrom rows (i + 1) d′
-unfolding linesFrom
-one-more rows i d d′ e = ap (linesFrom rows i) e ∙ ap (λ j. line (sixAt rows (6 * i)) ++ linesFrom rows j d′) (omega arith)
-
-pub lines-next : {rows : List ℕ} {count at₀ to n to′ : ℕ} {out₀ out out′ : List ℕ} → Lining rows count at₀ out₀ to out n → n < count
-    → Puts (line (sixAt rows (6 * n))) to out to′ out′ → Lining rows count at₀ out₀ to′ out′ (n + 1)
-lines-next {rows} {count} {to = to} {n = n} {out = out} i l p = record {
-  rest =
-      sym (ap (puts (linesFrom rows (n + 1) (count - (n + 1)))) (p .done))
-      ∙ sym (puts-append (line (sixAt rows (6 * n))) (linesFrom rows (n + 1) (count - (n + 1))) (record { at = to; out = out }))
-      ∙ ap (λ t. puts t (record { at = to; out = out })) (sym (one-more rows n (count - n) (count - (n + 1)) (omega arith)))
-      ∙ i .rest;
-  within = omega arith;
-}
-
-none-more : (rows : List ℕ) (i d : ℕ) → d ≡ 0 → linesFrom rows i d ≡ []
-unfolding linesFrom
-none-more rows i d e = ap (linesFrom rows i) e
-
-pub lines-end : {rows : List ℕ} {count at₀ to n : ℕ} {out₀ out : List ℕ} → Lining rows count at₀ out₀ to out n → count ≤ n → Puts (linesFrom rows 0 count) at₀ out₀ to out
-unfolding puts
-lines-end {rows} {count} {to = to} {n = n} {out = out} i l =
-    record { done = sym (i .rest) ∙ ap (λ t. puts t (record { at = to; out = out })) (none-more rows n (count - n) (omega arith)) }
+pub line-is : (ns : List ℕ) → 0 < length ns → decimal (getD ns 0 0) ++ blanked (take (length ns - 1) (drop 1 ns)) ≡ line ns
+unfolding line
+line-is [] l = absurd (omega arith)
+line-is (n ∷ ns) l = let z : suc (length ns) - 1 ≡ length ns = omega arith in rw (z, take-length)
 
 -- ---- the lines of the items
 
-past : (pre xs : List ℕ) (c j : ℕ) → c ≡ length pre + j → getD (pre ++ xs) c 0 ≡ getD xs j 0
-past [] xs c j e = ap (λ i. getD xs i 0) (e ∙ omega arith)
-past (p ∷ pre) xs c j e = ap (λ i. getD (p ∷ (pre ++ xs)) i 0) (e ∙ step) ∙ past pre xs (length pre + j) j refl
-  where
-    step : suc (length pre) + j ≡ suc (length pre + j)
-    step = omega arith
+pub six-from : (rows : List ℕ) (i : ℕ) → take ((6 * i + 6) - 6 * i) (drop (6 * i) rows) ≡ sixOf rows i
+six-from rows i = let z : (6 * i + 6) - 6 * i ≡ 6 = omega arith in rw z
 
-assoc : (a c d : List ℕ) → (a ++ c) ++ d ≡ a ++ (c ++ d)
-assoc [] c d = refl
-assoc (x ∷ a) c d = ap (x ∷_) (assoc a c d)
-
-six : (x : Item) (pre post : List ℕ) (c : ℕ) → c ≡ length pre → sixAt (pre ++ (row x ++ post)) c ≡ row x
-six x pre post c e = rw (
-  past pre (row x ++ post) c 0 (omega arith),
-  past pre (row x ++ post) (c + 1) 1 (omega arith),
-  past pre (row x ++ post) (c + 2) 2 (omega arith),
-  past pre (row x ++ post) (c + 3) 3 (omega arith),
-  past pre (row x ++ post) (c + 4) 4 (omega arith),
-  past pre (row x ++ post) (c + 5) 5 (omega arith),
-)
+six : (x : Item) (pre post : List ℕ) (i : ℕ) → length pre ≡ 6 * i → sixOf (pre ++ (row x ++ post)) i ≡ row x
+six x pre post i e = ap (take 6) (drop-at pre (row x ++ post) (6 * i) e) ∙ take-append-seam (row x) post
 
 lines-of : (is : List Item) (pre post : List ℕ) (i : ℕ) → length pre ≡ 6 * i → linesFrom (pre ++ (rowsOf is ++ post)) i (length is) ≡ rowLines is
-unfolding linesFrom rowsOf rowLines
+unfolding forEach rowsOf rowLines
 lines-of [] pre post i e = refl
 lines-of (x ∷ is) pre post i e =
-    ap (λ t. linesFrom t i (suc (length is))) (ap (pre ++_) (assoc (row x) (rowsOf is) post))
-    ∙ ap (λ s. line s ++ linesFrom (pre ++ (row x ++ (rowsOf is ++ post))) (suc i) (length is)) (six x pre (rowsOf is ++ post) (6 * i) (sym e))
-    ∙ ap (λ t. line (row x) ++ linesFrom t (suc i) (length is)) (sym (assoc pre (row x) (rowsOf is ++ post)))
+    ap (λ t. linesFrom t i (suc (length is))) (ap (pre ++_) (append-assoc (row x) (rowsOf is) post))
+    ∙ ap (λ s. line s ++ linesFrom (pre ++ (row x ++ (rowsOf is ++ post))) (suc i) (length is)) (six x pre (rowsOf is ++ post) i e)
+    ∙ ap (λ t. line (row x) ++ linesFrom t (suc i) (length is)) (sym (append-assoc pre (row x) (rowsOf is ++ post)))
     ∙ ap (line (row x) ++_) (lines-of is (pre ++ row x) post (suc i) (omega (arith, e, length-append pre (row x))))
 
 pub lines-are : (is : List Item) (rows post : List ℕ) → rows ≡ rowsOf is ++ post → linesFrom rows 0 (length is) ≡ rowLines is

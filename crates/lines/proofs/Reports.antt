@@ -2,7 +2,6 @@
 --     reported-refused, reported-accepted   by the judge's decision
 --     written                               what is put from the start is what Written says
 use mathlib.Core.Path.{_≡_, refl, sym, ap, _∙_}
-use mathlib.Core.Bool.{true, false, cond}
 use mathlib.Core.List.{List, [], _∷_, _++_}
 use Prim.Native.Nat.{ℕ, zero, suc, _+_, _-_, _*_, _≤_}
 use native.Mathlib.Omega.{arith}
@@ -10,13 +9,13 @@ use lib.ListN.{length, take, drop, getD, length-drop}
 use lib.Seq.{take-all}
 use Rattle.rules.specs.Sizes.{mostRows, used}
 use Rattle.rules.specs.Listings.{book}
-use Rattle.rules.specs.Table.{rowsOf, keptRows, header, tableOf, laid}
-use Rattle.rules.specs.Verdicts.{items, refuses, judgeVerdict}
+use Rattle.rules.specs.Table.{rowsOf, keptRows, header, tableOf}
+use Rattle.rules.specs.Verdicts.{items}
 use Rattle.rules.specs.Octets.{five}
 use Rattle.rules.specs.Program.{blanked, rowLines, acceptWord, refuseWord, textOf, inputKind, inputMessage, Written}
 use Rattle.rules.specs.Answers.{Decided}
 use Rattle.rules.specs.declared.Decision.{Decision}
-use Rattle.judging.proofs.Accepted.{Ready, ready, verdict-is, refused-is}
+use Rattle.judging.proofs.Accepted.{Ready, verdict-is, refused-is}
 use Rattle.wording.specs.Puts.{Puts}
 use Rattle.wording.proofs.Puts.{then-puts, puts-start, puts-same}
 use Rattle.lines.specs.Lines.{linesFrom, Reported}

@@ -1,50 +1,39 @@
 // What the judge program writes: a line for a refusal, or a line of counts and a line a row.
-ghost use mathlib.Core.List.{[], _∷_, _++_};
-ghost use Prim.Native.Nat.{_+_, _*_, _≤_};
+ghost use mathlib.Core.List.{_++_};
+ghost use Prim.Native.Nat.{_*_, _≤_, _<_};
 ghost use lib.ListN.{length};
-ghost use Rattle.rules.specs.Octets.{five};
-ghost use Rattle.rules.specs.Program.{blanked, line, acceptWord, refuseWord, Written};
+ghost use Rattle.rules.specs.Program.{blanked, line, Written};
 ghost use Rattle.wording.specs.Puts.{Puts};
-ghost use Rattle.lines.specs.Lines.{sixAt, linesFrom, Reported};
-use rules::Verdict;
+ghost use Rattle.lines.specs.Lines.{linesFrom, Reported};
 
-// `refuse` and the five numbers.
-fn refusal(v: Verdict, out: &mut [u8]) -> usize
-    ensures { λ r. ⌜ Puts (refuseWord ++ blanked (five v)) 0 (now (out .entry)) r (now (out .exit)) ⌝ }
+// A blank before each number, and a newline.
+fn blanked(numbers: &[u16], at: usize, out: &mut [u8]) -> usize
+    ensures { λ r. ⌜ Puts (blanked (now (numbers .entry))) at (now (out .entry)) r (now (out .exit)) ⌝ }
 {
-    let word = [114u8, 101, 102, 117, 115, 101];
-    let at0 = wording::copy(&word, 0, out);
-    let at1 = wording::next_number(v.code, at0, out);
-    let at2 = wording::next_number(v.cause, at1, out);
-    let at3 = wording::next_number(v.place, at2, out);
-    let at4 = wording::next_number(v.typ, at3, out);
-    let at5 = wording::next_number(v.inst, at4, out);
-    wording::put(10, at5, out)
+    let mut to = at;
+    let mut n = 0;
+    while n < numbers.len() {
+        to = wording::next_number(numbers[n], to, out);
+        n += 1;
+    }
+    wording::put(10, to, out)
 }
 
-// `accept`, rows and kept rows.
-fn counts(rows: u16, kept: u16, out: &mut [u8]) -> usize
-    ensures { λ r. ⌜ Puts (acceptWord ++ blanked (rows ∷ kept ∷ [])) 0 (now (out .entry)) r (now (out .exit)) ⌝ }
+// A word and numbers.
+fn said(word: &[u8], numbers: &[u16], out: &mut [u8]) -> usize
+    ensures { λ r. ⌜ Puts (now (word .entry) ++ blanked (now (numbers .entry))) 0 (now (out .entry)) r (now (out .exit)) ⌝ }
 {
-    let word = [97u8, 99, 99, 101, 112, 116];
-    let at0 = wording::copy(&word, 0, out);
-    let at1 = wording::next_number(rows, at0, out);
-    let at2 = wording::next_number(kept, at1, out);
-    wording::put(10, at2, out)
+    let after = wording::copy(word, 0, out);
+    blanked(numbers, after, out)
 }
 
-// The six numbers of a row, from number `n` on.
-fn row_line(rows: &[u16], n: usize, at: usize, out: &mut [u8]) -> usize
-    requires { ⌜ n + 6 ≤ length (now rows) ⌝ }
-    ensures { λ r. ⌜ Puts (line (sixAt (now (rows .entry)) n)) at (now (out .entry)) r (now (out .exit)) ⌝ }
+// The numbers of a row.
+fn row_line(row: &[u16], at: usize, out: &mut [u8]) -> usize
+    requires { ⌜ 0 < length (now row) ⌝ }
+    ensures { λ r. ⌜ Puts (line (now (row .entry))) at (now (out .entry)) r (now (out .exit)) ⌝ }
 {
-    let at1 = wording::number(rows[n], at, out);
-    let at2 = wording::next_number(rows[n + 1], at1, out);
-    let at3 = wording::next_number(rows[n + 2], at2, out);
-    let at4 = wording::next_number(rows[n + 3], at3, out);
-    let at5 = wording::next_number(rows[n + 4], at4, out);
-    let at6 = wording::next_number(rows[n + 5], at5, out);
-    wording::put(10, at6, out)
+    let after = wording::number(row[0], at, out);
+    blanked(&row[1..], after, out)
 }
 
 // A line for each of the first `count` rows.
@@ -55,7 +44,9 @@ fn row_lines(rows: &[u16], count: usize, at: usize, out: &mut [u8]) -> usize
     let mut to = at;
     let mut n = 0;
     while n < count {
-        to = row_line(rows, 6 * n, to, out);
+        let from = 6 * n;
+        let end = from + 6;
+        to = row_line(&rows[from..end], to, out);
         n += 1;
     }
     to
@@ -69,9 +60,11 @@ fn report(kind: u32, message: &[u8], out: &mut [u8]) -> usize
     let d = judging::decide(kind, message, &mut rows, 6136);
     let v = d.verdict;
     if v.code != 0 {
-        return refusal(v, out);
+        return said(b"refuse", &[v.code, v.cause, v.place, v.typ, v.inst], out);
     }
-    let at = counts(d.rows as u16, d.kept as u16, out);
+    let count = d.rows as u16;
+    let kept = d.kept as u16;
+    let at = said(b"accept", &[count, kept], out);
     row_lines(&rows, d.rows, at, out)
 }
 

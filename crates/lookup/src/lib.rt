@@ -142,7 +142,7 @@ fn part<'a>(buffer: &'a [u8], span: Span) -> &'a [u8]
     &buffer[start..end]
 }
 
-// The plain lookup: the part of the message for the first kept row with parent 0 and that pair, or the empty part.
+// The plain lookup: the part of the message where the value of the pair's first kept row in the body stands, or the empty part.
 pub fn plain<'a>(typ: u16, inst: u16, message: &'a [u8], table: &[u16]) -> &'a [u8]
     ensures { λ r. ⌜ Plain typ inst (message .entry) (now (table .entry)) r ⌝ }
 {

@@ -140,23 +140,20 @@ pub(crate) fn numbers(digits: &[u8], room: &mut [u16]) -> usize
     n
 }
 
-fn digit(x: u8) -> u8
-    requires { ⌜ x < 16 ⌝ }
+// Room for the digits of the largest part.
+fn digit_room() -> [u8; 131072]
+    ensures { λ r. ⌜ 131072 ≡ length r ⌝ }
 {
-    if x < 10 {
-        return b'0' + x;
-    }
-    b'A' + (x - 10)
+    [0; 131072]
 }
 
-fn print_octet(x: u8) {
-    io::write_all(STDOUT_FILENO, &[digit(x / 16), digit(x % 16)]);
+// The octets of a part in hex, by way of `out`.
+fn print_by(part: &[u8], out: &mut [u8]) {
+    let n = wording::hexes(part, 0, out);
+    io::write_all(STDOUT_FILENO, output::first(out, n));
 }
 
 pub(crate) fn print_octets(part: &[u8]) {
-    let mut at = 0;
-    while at < part.len() {
-        print_octet(part[at]);
-        at += 1;
-    }
+    let mut out = digit_room();
+    print_by(part, &mut out);
 }

@@ -9,9 +9,9 @@ use lib.ListN.{length, take, getD, length-append, List·getD-append}
 use lib.Seq.{getD-append-add, take-suc, take-length}
 use Rattle.rules.specs.Sizes.{rowNumbers}
 use Rattle.rules.specs.Standing.{Item}
-use Rattle.rules.specs.Table.{row, rowsOf, laid}
+use Rattle.rules.specs.Table.{row, rowsOf, laid, noItem, nth}
 use Rattle.rules.specs.Covered.{cleared, clearAll}
-use Rattle.rules.proofs.Rows.{rows-length, in-rows, noItem, nth, Every, every-at, Fits}
+use Rattle.rules.proofs.Rows.{rows-length, in-rows, Every, every-at, Fits}
 use Rattle.masking.specs.Clearing.{number, clearedRow, clearedRows, Within}
 
 clear-snoc : (copy : List ℕ) (is : List Item) (i : Item) → clearAll copy (is ++ (i ∷ [])) ≡ cleared (clearAll copy is) i

@@ -2,7 +2,6 @@
 ghost use mathlib.Core.Path.{_≡_};
 ghost use Prim.Native.Nat.{_+_, _-_, _≤_};
 ghost use lib.ListN.{length, replicate};
-ghost use Rattle.rules.specs.Verdicts.{refused};
 ghost use Rattle.rules.specs.Covered.{openOctets, zeroed};
 ghost use Rattle.rules.specs.Answers.{Masked};
 ghost use Rattle.facts.specs.Facts.{facts};
@@ -10,18 +9,6 @@ ghost use Rattle.masking.specs.Clearing.{clearedRow, clearedRows, RowWit
 ghost use Rattle.masking.specs.Settled.{Settles, Settled};
 use rules::Reading;
 use rules::Verdict;
-
-pub(crate) fn verdict(code: u16) -> Verdict
-    ensures { λ r. ⌜ r ≡ refused code 0 ⌝ }
-{
-    Verdict {
-        code,
-        cause: 0,
-        place: 0,
-        typ: 0,
-        inst: 0,
-    }
-}
 
 // Every octet of the part becomes 0.
 pub(crate) fn clear(part: &mut [u8])
@@ -103,12 +90,12 @@ pub(crate) fn settle(r: Reading, rows: &[u16], message: &[u8], copy: &mut [u8]) 
         return v;
     }
     if copy.len() < message.len() {
-        return verdict(13);
+        return answers::refuse(13, 0);
     }
     copying::copy_octets(message, copy);
     let types = facts::table();
     clear_rows(&types, rows, r.rows, copy);
-    verdict(0)
+    answers::accept()
 }
 
 // The masker, with room for the rows of any message.

@@ -1,11 +1,11 @@
 -- Numbers at places of an octet buffer, high octet first. Assumes nothing.
 use Prim.Native.Nat.{ℕ, _+_, _*_, _/_, _%_}
 use mathlib.Core.Bool.{Bool, cond, _||_}
-use mathlib.Core.List.{List, _∷_}
+use mathlib.Core.List.{List}
 use lib.Dec.{ltb}
-use lib.ListN.{length, take, set}
-use Rattle.rules.specs.Sizes.{mostRows, headerNumbers, rowNumbers, used}
-use Rattle.rules.specs.Table.{laid}
+use lib.ListN.{length, set}
+use Rattle.rules.specs.Sizes.{mostRows, rowNumbers, used}
+use Rattle.rules.specs.Table.{numbersBy, laid}
 use Rattle.rules.specs.Octets.{octetsOf}
 
 -- l with the number v at the places i and i + 1
@@ -21,4 +21,4 @@ misfit rows n kept table =
 unfoldable pub tableStored : List ℕ → ℕ → ℕ → List ℕ → List ℕ
 tableStored rows n kept table =
     cond (misfit rows n kept table) table
-    (laid (octetsOf (n ∷ kept ∷ headerNumbers ∷ used n ∷ take (rowNumbers * n) rows)) table)
+    (laid (octetsOf (numbersBy n kept rows)) table)

@@ -1,51 +1,70 @@
--- How long names and refusals are at most, whatever the table of names holds. Assumes nothing.
+-- How long a text is at most when its slots are filled, whatever the numbers and the table of names are: computed from the texts and slots alone.
+-- Assumes nothing.
+--     said-length                                             of a section, by one computed test
+--     page-length, refusal-length, row-length, ending-length   of those that others say
 use mathlib.Core.Path.{_≡_, refl}
-use mathlib.Core.Bool.{Bool, true, false, cond, _&&_}
-use mathlib.Core.List.{List, [], _∷_, _++_}
-use Prim.Native.Nat.{ℕ, _+_, _*_, _≤_}
-use Prim.Native.String.{String}
+use mathlib.Core.Bool.{Bool, true, false, cond, _&&_, _||_}
+use mathlib.Core.List.{List, [], _∷_}
+use Prim.Native.Nat.{ℕ, _+_, _-_, _*_, _≤_}
 use native.Mathlib.Omega.{arith}
-use borrow.Author.Tests.{leb-true}
-use lib.Dec.{eqb, leb}
-use lib.ListN.{length, drop, length-append, length-take}
+use borrow.Author.Tests.{leb-true, eqb-true, ltb-true, eq-eqb}
+use lib.Dec.{eqb, leb, ltb}
+use lib.ListN.{length, drop, getD, length-take}
 use Rattle.rules.specs.Program.{decimal}
-use Rattle.rules.specs.declared.Verdict.{Verdict}
 use Rattle.rules.proofs.Lines.{and-left, and-right}
+use Rattle.wording.specs.Pieces.{leftIn, rightIn}
 use Rattle.wording.proofs.Decimals.{decimal-length}
-use Rattle.phrases.specs.Words.{words, textFor}
-use Rattle.phrases.specs.Names.{kindName, messageName, standingName, entryOf, beforeBlanks, trimmed, elementName}
-use Rattle.phrases.specs.Refusals.{laterText, checkText, causeText, atOctet, atLevel, whichElement, details, refusal}
+use Rattle.wording.proofs.Turns.{left-length, right-length, sumOf, each-length}
+use Rattle.phrases.specs.Texts.{octetsOf, Text, slotOctet, every, keyFor, keyOf, textIn}
+use Rattle.phrases.specs.Table.{slots, texts, textFor, itself, unlessZero, element, pages, refusals, rows, endings}
+use Rattle.phrases.specs.Names.{entryOf, beforeBlanks, trimmed, elementName}
+use Rattle.phrases.specs.Sentences.{someDecimal, slotNumber, worded, slotText, pieceText, filled, said}
 
--- ---- a text by number, by one computed test
+abbrev larger : ℕ → ℕ → ℕ
+larger a c = a + (c - a)
 
-noneLonger : ℕ → List (ℕ × String) → Bool
-noneLonger most [] = true
-noneLonger most (p ∷ ps) = leb (length (words (p .1))) most && noneLonger most ps
+-- ---- the largest of a section, by what is counted of a text
 
-either : (most : ℕ) (c : Bool) (a b : List ℕ) → length a ≤ most → length b ≤ most → length (cond c a b) ≤ most
-either most true a b l m = l
-either most false a b l m = m
+unfoldable most : (List ℕ → ℕ) → ℕ → List Text → ℕ
+most f s [] = 0
+most f s (t ∷ ts) = larger (cond (eqb (t .section) s) (f (octetsOf (t .pieces))) 0) (most f s ts)
 
-text-length : (most n : ℕ) (ps : List (ℕ × String)) (other : List ℕ) → noneLonger most ps ≡ true → length other ≤ most → length (textFor n ps other) ≤ most
-unfolding textFor noneLonger
-text-length most n [] other e l = l
-text-length most n (p ∷ ps) other e l =
-    let this = length (words (p .1)) in
-    either most (eqb n (p .0)) (words (p .1)) (textFor n ps other)
-    (leb-true this most (and-left (leb this most) (noneLonger most ps) e))
-    (text-length most n ps other (and-right (leb this most) (noneLonger most ps) e) l)
+-- numbers are octets, so that a key has one section
+unfoldable octetNumbers : List Text → Bool
+octetNumbers [] = true
+octetNumbers (t ∷ ts) = leb (t .number) every && octetNumbers ts
 
-pub kind-length : (k : ℕ) → length (kindName k) ≤ 18
-unfolding kindName noneLonger
-kind-length k = text-length 18 k _ _ refl (omega arith)
+capped : (n : ℕ) → cond (ltb n every) n every ≤ 255
+capped n = go (ltb n every) refl
+  where
+    go : (c : Bool) → ltb n every ≡ c → cond c n every ≤ 255
+    go true e = omega (arith, ltb-true n every e)
+    go false e = omega arith
 
-pub message-length : (t : ℕ) → length (messageName t) ≤ 34
-unfolding messageName noneLonger
-message-length t = text-length 34 t _ _ refl (omega arith)
+module _ (f : List ℕ → ℕ) (none : f [] ≡ 0) (s n : ℕ) where
+  own : (t : Text) → t .number ≤ 255 → (eqb (keyOf t) (keyFor s n) || eqb (keyOf t) (keyFor s every)) ≡ true → t .section ≡ s
+  own t l e = go (eqb (keyOf t) (keyFor s n)) refl e
+    where
+      go : (c : Bool) → eqb (keyOf t) (keyFor s n) ≡ c → c || eqb (keyOf t) (keyFor s every) ≡ true → t .section ≡ s
+      go true x y = omega (arith, eqb-true (keyOf t) (keyFor s n) x, capped n)
+      go false x y = omega (arith, eqb-true (keyOf t) (keyFor s every) y)
 
-pub standing-length : (s : ℕ) → length (standingName s) ≤ 10
-unfolding standingName noneLonger
-standing-length s = text-length 10 s _ _ refl (omega arith)
+  at-most : (ts : List Text) → octetNumbers ts ≡ true → f (textIn ts (keyFor s n) (keyFor s every)) ≤ most f s ts
+  unfolding textIn most octetNumbers
+  at-most [] e = omega (arith, none)
+  at-most (t ∷ ts) e =
+      go (at-most ts (and-right (leb (t .number) every) (octetNumbers ts) e)) (eqb (keyOf t) (keyFor s n) || eqb (keyOf t) (keyFor s every)) refl
+    where
+      go : f (textIn ts (keyFor s n) (keyFor s every)) ≤ most f s ts → (c : Bool) → (eqb (keyOf t) (keyFor s n) || eqb (keyOf t) (keyFor s every)) ≡ c
+          → f (cond c (octetsOf (t .pieces)) (textIn ts (keyFor s n) (keyFor s every)))
+          ≤ larger (cond (eqb (t .section) s) (f (octetsOf (t .pieces))) 0) (most f s ts)
+      go h true x = rw (eq-eqb (t .section) s (own t (leb-true (t .number) every (and-left (leb (t .number) every) (octetNumbers ts) e)) x)) (omega arith)
+      go h false x = omega arith
+
+-- of the texts
+most-of : (f : List ℕ → ℕ) → f [] ≡ 0 → (s n : ℕ) → f (textFor s n) ≤ most f s texts
+unfolding textFor texts octetNumbers
+most-of f none s n = at-most f none s n texts refl
 
 -- ---- an element's name
 
@@ -61,73 +80,79 @@ unfolding trimmed
 trimmed-length [] = omega arith
 trimmed-length (x ∷ xs) = omega (arith, before-length x (trimmed xs), trimmed-length xs)
 
-pub element-length : (names : List ℕ) (t : ℕ) → length (elementName names t) ≤ 32
+element-length : (names : List ℕ) (t : ℕ) → length (elementName names t) ≤ 32
 unfolding elementName
 element-length names t = omega (arith, trimmed-length (entryOf names t), length-take 32 (drop (32 * t) names))
 
--- ---- a refusal
+-- ---- a slot
 
-later-length : (code : ℕ) → length (laterText code) ≤ 81
-unfolding laterText noneLonger
-later-length code = text-length 81 code _ _ refl (omega arith)
+unfoldable wordMost : ℕ → ℕ → ℕ → ℕ
+wordMost what width section =
+    cond (eqb what itself) (larger 5 width)
+    (cond (eqb what unlessZero) 5 (cond (eqb what element) (larger 32 width) (larger (most length section texts) width)))
 
-check-length : (code : ℕ) → length (checkText code) ≤ 81
-unfolding checkText noneLonger
-check-length code = text-length 81 code _ _ refl (later-length code)
+unfoldable pieceMost : ℕ → ℕ
+pieceMost x =
+    let s = x - slotOctet 0 in
+    cond (ltb x (slotOctet 0)) 1 (wordMost (slotNumber s 0) (slotNumber s 2) (slotNumber s 3))
 
-cause-length : (cause : ℕ) → length (causeText cause) ≤ 31
-unfolding causeText noneLonger
-cause-length cause = text-length 31 cause _ _ refl (omega arith)
+abbrev textMost : List ℕ → ℕ
+textMost t = sumOf pieceMost t
 
-octet-length : (place : ℕ) → length (atOctet place) ≤ 30
-unfolding atOctet
-octet-length place = omega (arith, decimal-length place)
-
-level-length : (place : ℕ) → length (atLevel place) ≤ 30
-unfolding atLevel
-level-length place = go (eqb place 0)
+some-length : (n : ℕ) → length (someDecimal n) ≤ 5
+unfolding someDecimal
+some-length n = go (eqb n 0)
   where
-    go : (c : Bool) → length (cond c (words " in the message") (words " in the group at octet " ++ decimal place)) ≤ 30
+    go : (c : Bool) → length (cond c [] (decimal n)) ≤ 5
     go true = omega arith
-    go false = omega (arith, decimal-length place)
+    go false = decimal-length n
 
-which-length : (names : List ℕ) (t i : ℕ) → length (whichElement names t i) ≤ 60
-unfolding whichElement
-which-length names t i =
-    omega (
-      arith,
-      decimal-length t,
-      decimal-length i,
-      element-length names t,
-      length-append (decimal t) (32 ∷ (elementName names t ++ (words ", instance " ++ decimal i))),
-      length-append (elementName names t) (words ", instance " ++ decimal i),
-    )
+module _ (names : List ℕ) where
+  word-length : (what width section n : ℕ) → length (worded names what width section n) ≤ wordMost what width section
+  unfolding worded wordMost
+  word-length what width section n = go (eqb what itself) (eqb what unlessZero) (eqb what element)
+    where
+      go : (a c d : Bool) → length (cond a (rightIn width (decimal n)) (cond c (someDecimal n) (cond d (leftIn width (elementName names n)) (leftIn width (textFor section n)))))
+          ≤ cond a (larger 5 width) (cond c 5 (cond d (larger 32 width) (larger (most length section texts) width)))
+      go true c d = omega (arith, right-length width (decimal n), decimal-length n)
+      go false true d = some-length n
+      go false false true = omega (arith, left-length width (elementName names n), element-length names n)
+      go false false false = omega (arith, left-length width (textFor section n), most-of length refl section n)
 
-details-length : (names : List ℕ) (v : Verdict) → length (details names v) ≤ 90
-unfolding details
-details-length names v = go (eqb (v .code) 9) (eqb (v .code) 11) (eqb (v .code) 12)
-  where
-    which : List ℕ
-    which = whichElement names (v .typ) (v .inst)
+  module _ (run : List ℕ) where
+    piece-length : (x : ℕ) → length (pieceText names run x) ≤ pieceMost x
+    unfolding pieceText pieceMost slotText
+    piece-length x = go (ltb x (slotOctet 0))
+      where
+        s : ℕ
+        s = x - slotOctet 0
 
-    go : (a c d : Bool) → length (cond a (atOctet (v .place)) (cond c (atOctet (v .place) ++ which) (cond d (atLevel (v .place) ++ which) []))) ≤ 90
-    go true c d = omega (arith, octet-length (v .place))
-    go false true d = omega (arith, octet-length (v .place), length-append (atOctet (v .place)) which, which-length names (v .typ) (v .inst))
-    go false false true = omega (arith, level-length (v .place), length-append (atLevel (v .place)) which, which-length names (v .typ) (v .inst))
-    go false false false = omega arith
+        n : ℕ
+        n = getD run (slotNumber s 1) 0
 
-pub refusal-length : (names : List ℕ) (v : Verdict) → length (refusal names v) ≤ 240
-unfolding refusal
-refusal-length names v =
-    let end = causeText (v .cause) ++ (10 ∷ []) in
-    omega (
-      arith,
-      decimal-length (v .code),
-      check-length (v .code),
-      details-length names v,
-      cause-length (v .cause),
-      length-append (decimal (v .code)) (58 ∷ 32 ∷ (checkText (v .code) ++ (details names v ++ end))),
-      length-append (checkText (v .code)) (details names v ++ end),
-      length-append (details names v) end,
-      length-append (causeText (v .cause)) (10 ∷ []),
-    )
+        go : (c : Bool) → length (cond c (x ∷ []) (worded names (slotNumber s 0) (slotNumber s 2) (slotNumber s 3) n)) ≤ cond c 1 (wordMost (slotNumber s 0) (slotNumber s 2) (slotNumber s 3))
+        go true = omega arith
+        go false = word-length (slotNumber s 0) (slotNumber s 2) (slotNumber s 3) n
+
+    said-length : (section n m : ℕ) → leb (most textMost section texts) m ≡ true → length (said names run section n) ≤ m
+    unfolding said filled sumOf
+    said-length section n m e =
+        omega (arith, each-length (pieceText names run) pieceMost piece-length (textFor section n), most-of textMost refl section n, leb-true (most textMost section texts) m e)
+
+    -- ---- what is computed of the texts
+
+    pub page-length : (n : ℕ) → length (said names run pages n) ≤ 200
+    unfolding most sumOf pieceMost wordMost slots texts octetsOf
+    page-length n = said-length pages n 200 refl
+
+    pub refusal-length : (n : ℕ) → length (said names run refusals n) ≤ 300
+    unfolding most sumOf pieceMost wordMost slots texts octetsOf
+    refusal-length n = said-length refusals n 300 refl
+
+    pub row-length : (n : ℕ) → length (said names run rows n) ≤ 68
+    unfolding most sumOf pieceMost wordMost slots texts octetsOf
+    row-length n = said-length rows n 68 refl
+
+    pub ending-length : (n : ℕ) → length (said names run endings n) ≤ 11
+    unfolding most sumOf pieceMost wordMost slots texts octetsOf
+    ending-length n = said-length endings n 11 refl

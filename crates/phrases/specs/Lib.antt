@@ -1,3 +1,5 @@
 pub mod Words
+pub mod Texts
+pub mod Table
 pub mod Names
-pub mod Refusals
+pub mod Sentences

@@ -1,34 +1,10 @@
--- Names by number: interface kinds, messages and standings; elements by a table of names that is lent. Assumes nothing.
+-- Elements' names by type number, in a table of names that is lent. Assumes nothing.
 use Prim.Native.Nat.{ℕ, _*_, _≤_}
 use mathlib.Core.Path.{_≡_}
 use mathlib.Core.Bool.{cond, _&&_}
 use mathlib.Core.List.{List, [], _∷_}
 use lib.Dec.{eqb}
 use lib.ListN.{length, take, drop}
-use Rattle.phrases.specs.Words.{words, textFor}
-
-unfoldable pub kindName : ℕ → List ℕ
-kindName k = textFor k ((1, "S11") ∷ (2, "S4") ∷ (3, "S5/S8") ∷ []) (words "no known interface")
-
-unfoldable pub messageName : ℕ → List ℕ
-messageName t =
-    textFor t (
-    (1, "Echo Request")
-    ∷ (2, "Echo Response")
-    ∷ (32, "Create Session Request")
-    ∷ (37, "Delete Session Response")
-    ∷ (66, "Delete Bearer Command")
-    ∷ (67, "Delete Bearer Failure Indication")
-    ∷ (68, "Bearer Resource Command")
-    ∷ (69, "Bearer Resource Failure Indication")
-    ∷ (97, "Update Bearer Request")
-    ∷ []
-    ) (words "Message not listed")
-
-unfoldable pub standingName : ℕ → List ℕ
-standingName s = textFor s ((0, "kept") ∷ (1, "not listed") ∷ (2, "repeat") ∷ []) (words "short")
-
--- ---- elements
 
 -- the octets of an entry of the table of names
 abbrev pub entryOctets : ℕ

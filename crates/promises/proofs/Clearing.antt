@@ -128,7 +128,7 @@ module _ (i : Item) (j : ℕ) where
 
 -- ---- one row
 
--- a row that lies in n octets and has a standing of document 01
+-- a row that lies in n octets and has one of the four standings
 pub record Clearable (n : ℕ) (i : Item) : Type 0 where
   pub finishes : valueEnd i ≤ n
   pub stands : i .stand ≤ short

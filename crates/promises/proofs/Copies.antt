@@ -1,61 +1,28 @@
 -- The masked copy: zero where the message is covered and the message's own octets elsewhere, so it differs in covered octets at most, and all that
 -- holds of such messages holds of it. Assumes nothing.
---     judge-framed, mask-framed                       the judge and the masker accept only what passes checks 1 to 9
 --     copy-octet, copy-past, copy-length              each octet of the copy, and its length
 --     masked-open                                     the masked message agrees with the message wherever that is not covered
 --     masked-verdict, masked-table, masked-accepted   it gets the message's own verdict and table
 --     masked-covered, masked-twice, masked-copy       it has the message's covered octets, is its own copy, and is masked as the message is
 --     copy-front, copy-verdict, copy-table            the copy's part of the message's length is the masked message, and is judged so
 --     desk-place, desk-octets, desk-part              what the desk's lookup answers without the right does not depend on a covered octet
-use mathlib.Core.Path.{_≡_, refl, sym, _∙_}
-use mathlib.Core.Bool.{Bool, true, false, cond}
-use mathlib.Core.List.{List, _++_}
-use Prim.Native.Nat.{ℕ, _+_, _-_, _≤_, _<_}
-use native.Mathlib.Omega.{arith}
-use lib.ListN.{length, take, drop, getD, List·getD-append}
-use lib.Seq.{getD-drop, getD-append-add}
+use mathlib.Core.Path.{_≡_, sym, _∙_}
+use mathlib.Core.Bool.{true, false, cond}
+use mathlib.Core.List.{List}
+use Prim.Native.Nat.{ℕ, _-_, _≤_, _<_}
+use lib.ListN.{length, take, getD}
 use denote.Ref.{RefT, now}
 use Rattle.rules.specs.Listings.{Book}
-use Rattle.rules.specs.Table.{laid}
-use Rattle.rules.specs.Verdicts.{accepted, refuses, first, framingChecks, judgeChecks, maskChecks, judgeVerdict, maskVerdict, judgeTable}
+use Rattle.rules.specs.Verdicts.{accepted, refuses, first, framingChecks, judgeVerdict, maskVerdict, judgeTable}
 use Rattle.rules.specs.Covered.{covered, masked, maskCopy}
 use Rattle.rules.specs.Sound.{sound}
-use Rattle.rules.specs.declared.Verdict.{Verdict}
-use Rattle.rules.proofs.Checks.{first-append}
 use Rattle.promises.specs.Agreeing.{SameOpen, deskPlace, deskOctets, AtDesk}
-use Rattle.promises.proofs.Left.{laid-take, laid-length, accepted-copy, enough-copy}
+use Rattle.verdicts.proofs.Laying.{laid-take, laid-length, laid-in, laid-past, judge-framed}
+use Rattle.promises.proofs.Left.{accepted-copy, mask-framed, enough-copy}
 use Rattle.promises.proofs.Clearing.{masked-length, masked-at}
 use Rattle.promises.proofs.Agreeing.{same-covered, same-verdict, same-table, same-masked, same-copy}
 
--- ---- what is accepted passes checks 1 to 9
-
-pass-front : (us vs : List Verdict) → refuses (first (us ++ vs)) ≡ false → refuses (first us) ≡ false
-pass-front us vs e = go (refuses (first us)) refl (rw (first-append us vs) at e)
-  where
-    go : (r : Bool) → refuses (first us) ≡ r → refuses (cond r (first us) (first vs)) ≡ false → refuses (first us) ≡ false
-    go true w z = z
-    go false w z = w
-
-module _ (b : Book) (k : ℕ) (m : List ℕ) (room : ℕ) where
-  pub judge-framed : refuses (judgeVerdict b k m room) ≡ false → refuses (first (framingChecks b k m)) ≡ false
-  unfolding judgeChecks
-  judge-framed e = pass-front (framingChecks b k m) _ e
-
-  pub mask-framed : refuses (maskVerdict b k m room) ≡ false → refuses (first (framingChecks b k m)) ≡ false
-  unfolding maskChecks
-  mask-framed e = pass-front (framingChecks b k m) _ e
-
 -- ---- demand 3 (b): each octet of the copy
-
-laid-in : (xs lent : List ℕ) (j : ℕ) → j < length xs → getD (laid xs lent) j 0 ≡ getD xs j 0
-unfolding laid
-laid-in xs lent j l = List·getD-append xs (drop (length xs) lent) 0 j l
-
-laid-past : (xs lent : List ℕ) (j : ℕ) → length xs ≤ j → getD (laid xs lent) j 0 ≡ getD lent j 0
-unfolding laid
-laid-past xs lent j l =
-    let e : length xs + (j - length xs) ≡ j = omega arith in
-    rw e at (getD-append-add xs (drop (length xs) lent) (j - length xs) 0 ∙ getD-drop (length xs) lent (j - length xs) 0)
 
 module _ (b : Book) (fine : sound b ≡ true) (k : ℕ) (m copy : List ℕ) (ok : refuses (maskVerdict b k m (length copy)) ≡ false) where
   size : length (masked b k m) ≡ length m

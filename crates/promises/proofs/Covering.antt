@@ -1,10 +1,10 @@
 -- Covered octets lie in values, never in a header: an element that is not entered covers its own value at most, and a kept group covers nothing for
 -- its own sake, so the headers inside it stay open. Assumes nothing.
 --     before, beyond      in a run nothing is covered before the end of the first header, nor past the run's end
---     sits, rows-sit      each row lies in its run, has a standing of document 01, and its header is open
+--     sits, rows-sit      each row lies in its run, has one of the four standings, and its header is open
 --     open-refused, covered-rows                  what is covered of a message that checks 1 to 9 refuse, and of one that they pass
 --     header-open, past-open, row-header-open     no octet is covered of the message's header, past its end, or of the header of an element taken
-use mathlib.Core.Path.{_≡_, refl, sym, _∙_}
+use mathlib.Core.Path.{_≡_, refl, sym, ap, _∙_}
 use mathlib.Core.Bool.{Bool, true, false, _||_, and-false, or-assoc}
 use mathlib.Core.List.{List, [], _∷_, _++_}
 use Prim.Native.Nat.{ℕ, _+_, _≤_, _<_}
@@ -16,16 +16,22 @@ use Rattle.rules.specs.Framing.{elementHeader, headerLength}
 use Rattle.rules.specs.Types.{coversRest}
 use Rattle.rules.specs.Listings.{Book}
 use Rattle.rules.specs.Standing.{Item, fresh, short, itemOf, valuePlace, valueEnd}
-use Rattle.rules.specs.Taking.{whole, taken, bodyLevel}
+use Rattle.rules.specs.Taking.{whole, taken, bodyLevel, itemsIn}
 use Rattle.rules.specs.Met.{Met, ends, alone, group}
 use Rattle.rules.specs.Verdicts.{first, refuses, framingChecks, items}
 use Rattle.rules.specs.Covered.{isValueOctet, coveredBy, coveredIn, covered}
 use Rattle.rules.specs.Sound.{sound}
 use Rattle.rules.proofs.Heads.{fits, rest-length, value-length}
 use Rattle.rules.proofs.Standings.{stand-most}
-use Rattle.rules.proofs.Rows.{Every, every-append, every-map, every-at, nth, body-met}
+use Rattle.rules.specs.Table.{nth}
+use Rattle.rules.proofs.Rows.{Every, every-append, every-map, every-at, body-met}
 use Rattle.rules.proofs.Header.{Passed, framed}
+use Rattle.rules.specs.Values.{rowPlace}
 use Rattle.rules.proofs.Covers.{firstCovered, group-open}
+use Rattle.tables.specs.Words.{rows, rowStart}
+use Rattle.tables.specs.IsTable.{IsTable}
+use Rattle.tables.proofs.Rowed.{count-of, row-of}
+use Rattle.verdicts.proofs.Completeness.{complete}
 
 -- ---- one row
 
@@ -199,3 +205,13 @@ module _ (b : Book) (fine : sound b ≡ true) (k : ℕ) (m : List ℕ) where
   row-header-open r c j l u =
       by-rows b k m j
       (λ f. every-at (Sits (f .rows) (headerLength m) (length m)) (f .rows) (rows-sit f) r (rw (f .takes) at c) .opens j (rw (f .takes) at l) (rw (f .takes) at u))
+
+-- the same by the rows of the message's table
+pub element-header-open : (b : Book) → sound b ≡ true → (k : ℕ) (m t : List ℕ) → IsTable b k m t → (r : ℕ) → r < rows t → (j : ℕ) → rowStart t r ≤ j → j < rowPlace t r → covered b k m j ≡ false
+element-header-open b fine k m t x r l j a c =
+    let y = complete b fine k m t x in
+    let es = y .0 in
+    let z : items b k m ≡ y .0 = ap itemsIn (y .1) in
+    let h : r < length (y .0) = rw (count-of t (y .0) (y .2)) at l in
+    let p : rowPlace t r ≡ valuePlace (nth (y .0) r) = row-of t (y .0) (y .2) r 3 h (omega arith) in
+    row-header-open b fine k m r (rw z h) j (rw z (omega (arith, a, p))) (rw z (omega (arith, c, p)))

@@ -1,53 +1,104 @@
--- What the owner is promised, under his own sentences, of the judge, the masker and the lookups by document 01's listings. Each statement is proved in the
--- file that it cites, there of any listings that pass the test `sound`; these do (`book-sound`). Assumes nothing.
-use mathlib.Core.Path.{_≡_}
-use mathlib.Core.Logic.{_↔_}
+-- Every statement to the owner, demand by demand, of the judge, the masker, the lookups and the exports by the listings of rule 3.2. Each is proved in the file
+-- that it cites, there of any listings that pass the test `sound`; these do (`book-sound`). Assumes nothing.
+use mathlib.Core.Path.{_≡_, sym, ap, _∙_}
+use mathlib.Core.Logic.{_⊎_, _↔_}
 use mathlib.Core.Bool.{Bool, true, false, cond}
 use mathlib.Core.List.{List}
-use Prim.Native.Nat.{ℕ, suc, _+_, _*_, _≤_, _<_}
-use lib.Dec.{lit<}
+use Prim.Native.Nat.{ℕ, suc, _+_, _-_, _*_, _≤_, _<_}
+use native.Mathlib.Omega.{arith}
 use lib.ListN.{length, take, drop, getD}
 use denote.Ref.{RefT, now}
-use Rattle.rules.specs.Sizes.{headerNumbers, used}
-use Rattle.rules.specs.Framing.{headerLength, messageType}
-use Rattle.rules.specs.Types.{isGroup}
-use Rattle.rules.specs.Listings.{book, isMessage}
-use Rattle.rules.specs.Standing.{Item, kept, valuePlace, valueEnd}
+use Rattle.rules.specs.Sizes.{largestMessage, mostRows, headerNumbers, fiveOctets, used}
+use Rattle.rules.specs.Framing.{elementHeader, headerLength}
+use Rattle.rules.specs.Types.{among}
+use Rattle.rules.specs.Listings.{book, noLine, lists}
+use Rattle.rules.specs.Standing.{Item, kept, unexpected, repeated, short}
 use Rattle.rules.specs.Taking.{whole, taken, bodyLevel}
-use Rattle.rules.specs.Table.{tableOf, laid, keptRows}
-use Rattle.rules.specs.Verdicts.{refuses, first, framingChecks, items, judgeVerdict, maskVerdict, judgeTable}
+use Rattle.rules.specs.Table.{tableOf, laid}
+use Rattle.rules.specs.Verdicts.{accepted, refusedAt, invalidLength, mandatoryMissing, refuses, first, framingChecks, items, judgeVerdict, maskVerdict, judgeTable, judgeNumbers, maskNumbers}
 use Rattle.rules.specs.Covered.{covered, masked, maskCopy}
+use Rattle.rules.specs.Values.{rowType, rowInstance, rowParent, rowPlace, rowStanding, Stands}
+use Rattle.rules.specs.Octets.{five, tableRoom}
+use Rattle.rules.specs.Answers.{Judged, Masked, Plain, PlainFound, Desk, DeskFound, JudgedOctets, MaskedOctets}
+use Rattle.rules.specs.declared.Verdict.{Verdict}
 use Rattle.rules.proofs.Book.{book-sound}
-use Rattle.rules.proofs.Header.{judgeNumbers, maskNumbers}
-use Rattle.rules.proofs.Rows.{nth, few-rows}
-use Rattle.promises.specs.Places.{Lies}
-use Rattle.promises.specs.Missing.{Lacks, ShortRow}
-use Rattle.promises.specs.Conditions.{numbers, judgeConditions, maskConditions, OwnWords, judgeWords, maskWords}
+use Rattle.rules.proofs.Header.{Passed}
+use Rattle.rules.proofs.Rows.{header-least}
+use Rattle.tables.specs.Words.{rows, keptCount, firstRow, numbersUsed, keptAmong, rowStart, rowEnd, KeptGroup, IsLevel, Inside, Faithful}
+use Rattle.tables.specs.Levels.{levelOf}
+use Rattle.tables.specs.Standings.{itsListing, Listed, Again, Below}
+use Rattle.tables.specs.IsTable.{IsTable}
+use Rattle.tables.specs.Tiles.{Tiles}
+use Rattle.verdicts.specs.Missing.{ShortRow, Lacks, NamesShort, NamesLack}
+use Rattle.verdicts.specs.Accepts.{Leaves}
+use Rattle.verdicts.specs.IsCut.{IsCut}
+use Rattle.verdicts.specs.Covers.{ValueOver, Covers}
+use Rattle.verdicts.specs.Conditions.{framingConditions, judgeConditions, maskConditions, OwnWords, judgeWords, maskWords}
+use Rattle.tables.proofs.Rowed.{Begins}
+use Rattle.verdicts.proofs.Laying.{accepted-table}
+use Rattle.verdicts.proofs.Cases.{judge-words, mask-words, judge-says, mask-says}
+use Rattle.verdicts.proofs.Acceptance.{NoneHolds, OneOf, judge-accepting, mask-accepting, judge-codes, mask-codes}
+use Rattle.tables.proofs.Standings.{listed-iff, unexpected-iff, repeated-iff, short-iff, kept-iff, kept-listed}
+use Rattle.tables.proofs.Trees.{backward, between, in-message}
+use Rattle.tables.proofs.Tiling.{tiles}
+use Rattle.tables.proofs.Levels.{level-group, group-level}
+use Rattle.verdicts.proofs.Passing.{passed-iff}
+use Rattle.verdicts.proofs.Masking.{masks-iff, thirteen-iff, alike}
+use Rattle.verdicts.proofs.Completeness.{one-table, few}
+use Rattle.verdicts.proofs.Accepting.{table-iff, accepts-iff}
+use Rattle.verdicts.proofs.Covers.{covered-iff}
+use Rattle.verdicts.proofs.Cutting.{nine-iff}
+use Rattle.verdicts.proofs.CutPlace.{table-or-cut, never-both, cut-once, nine-at}
+use Rattle.verdicts.proofs.Refusing.{ten-iff, eleven-iff, eleven-at, twelve-iff, twelve-at}
 use Rattle.promises.specs.Agreeing.{SameOpen, AtDesk}
-use Rattle.promises.proofs.Cases.{judge-words, mask-words, judge-says, mask-says}
-use Rattle.promises.proofs.Trees.{within, siblings, in-order, depth-first, parent-kept}
-use Rattle.promises.proofs.Left.{refused-table, accepted-table, refused-copy, table-stays}
-use Rattle.promises.proofs.Covering.{header-open, row-header-open}
+use Rattle.promises.specs.Exports.{numbersIn, LeavesOctets}
+use Rattle.promises.specs.Lookups.{valueOf, TopRow, FirstTopRow}
+use Rattle.promises.proofs.Left.{refused-table, refused-copy, table-stays}
+use Rattle.promises.proofs.Covering.{header-open, element-header-open}
 use Rattle.promises.proofs.Agreeing.{same-verdict, same-table, same-mask-verdict, same-copy}
-use Rattle.promises.proofs.Copies.{copy-octet, copy-past, copy-verdict, copy-table, masked-twice, masked-accepted, desk-part}
+use Rattle.promises.proofs.Copies.{copy-octet, copy-past, copy-verdict, copy-table, masked-twice, desk-part}
+use Rattle.promises.proofs.Exports.{code-of, export-leaves, leaves-export, export-refused, five-read, five-short}
+use Rattle.promises.proofs.Contracts.{two-judged, two-masked, two-judged-octets, two-masked-octets, copied, copied-octets}
+use Rattle.promises.proofs.Lookups.{desk-span, desk-found, plain-span, plain-found}
 
 module _ (k : ℕ) (m : List ℕ) where
-  -- 1. "Every message, interface number and lent buffer gets an answer, with nothing asked of the caller first. A refusal is one of the numbers in
-  -- document 01, at the place and in the order given there, and what it leaves in the table and the copy is fixed there."
+  -- ======== Demand 1: whatever is asked gets an answer; a refusal has a number of rule 6.2, its place and its turn; and what is left is fixed.
 
-  -- each of the judge's numbers 1 to 12 is given exactly where its condition holds and none before it does, and says what document 01 names
-  pub judge-in-its-case : (room j : ℕ) → j < 12 → (judgeVerdict book k m room .code ≡ getD judgeNumbers j 0) ↔ OwnWords book k m (judgeConditions book k m room) j
+  -- each of the judge's numbers 1 to 12 is given exactly where its condition holds and none before it does, and says what is to be named
+  pub judge-in-its-case : (room j : ℕ) → j < length judgeNumbers → (judgeVerdict book k m room .code ≡ getD judgeNumbers j 0) ↔ OwnWords (judgeConditions book k m room) j
   judge-in-its-case = judge-words book book-sound k m
 
-  pub judge-names : (room j : ℕ) → j < 12 → judgeVerdict book k m room .code ≡ getD judgeNumbers j 0 → getD (judgeWords book k m) j (λ v. ⊥) (judgeVerdict book k m room)
+  pub judge-names : (room j : ℕ) → j < length judgeNumbers → judgeVerdict book k m room .code ≡ getD judgeNumbers j 0
+      → getD (judgeWords book k m) j (λ v. ⊥) (judgeVerdict book k m room)
   judge-names = judge-says book book-sound k m
 
   -- and each of the masker's, 1 to 9 and 13
-  pub mask-in-its-case : (room j : ℕ) → j < 10 → (maskVerdict book k m room .code ≡ getD maskNumbers j 0) ↔ OwnWords book k m (maskConditions book k m room) j
+  pub mask-in-its-case : (room j : ℕ) → j < length maskNumbers → (maskVerdict book k m room .code ≡ getD maskNumbers j 0) ↔ OwnWords (maskConditions book k m room) j
   mask-in-its-case = mask-words book book-sound k m
 
-  pub mask-names : (room j : ℕ) → j < 10 → maskVerdict book k m room .code ≡ getD maskNumbers j 0 → getD (maskWords book k m) j (λ v. ⊥) (maskVerdict book k m room)
+  pub mask-names : (room j : ℕ) → j < length maskNumbers → maskVerdict book k m room .code ≡ getD maskNumbers j 0 → getD (maskWords book k m) j (λ v. ⊥) (maskVerdict book k m room)
   mask-names = mask-says book book-sound k m
+
+  -- acceptance, five zeros, is given exactly where no condition holds
+  pub judge-accepts : (room : ℕ) → (judgeVerdict book k m room ≡ accepted) ↔ NoneHolds (judgeConditions book k m room) (length judgeNumbers)
+  judge-accepts = judge-accepting book book-sound k m
+
+  pub mask-accepts : (room : ℕ) → (maskVerdict book k m room ≡ accepted) ↔ NoneHolds (maskConditions book k m room) (length maskNumbers)
+  mask-accepts = mask-accepting book book-sound k m
+
+  -- and every answer is acceptance or has one of the numbers
+  pub judge-one-of : (room : ℕ) → OneOf judgeNumbers (judgeVerdict book k m room)
+  judge-one-of = judge-codes book book-sound k m
+
+  pub mask-one-of : (room : ℕ) → OneOf maskNumbers (maskVerdict book k m room)
+  mask-one-of = mask-codes book book-sound k m
+
+  -- none of 1 to 8 applies exactly where the header is as `Passed` says; and where one of 1 to 9 does, judge and masker say the same
+  pub passed-exactly : Passed book k m ↔ NoneHolds (framingConditions book k m) 8
+  passed-exactly = passed-iff book book-sound k m
+
+  pub refused-alike : (room room′ : ℕ) → 0 < judgeVerdict book k m room .code → judgeVerdict book k m room .code ≤ 9 → maskVerdict book k m room′ ≡ judgeVerdict book k m room
+  refused-alike = alike book book-sound k m
 
   -- a refusal leaves table and copy as they were; numbers past those used stay always
   pub refusal-leaves-table : (t : List ℕ) → refuses (judgeVerdict book k m (length t)) ≡ true → judgeTable book k m t ≡ t
@@ -59,44 +110,161 @@ module _ (k : ℕ) (m : List ℕ) where
   pub past-the-used : (t : List ℕ) → drop (used (length (items book k m))) (judgeTable book k m t) ≡ drop (used (length (items book k m))) t
   past-the-used = table-stays book k m
 
-  -- 2. "The verdict and the table are those of 3GPP TS 29.274 as document 01 condenses it. Each row lies within its parent, and siblings never overlap.
-  -- 'Mandatory element missing' is given exactly when the earlier checks pass and some required type and instance has no kept row at its own level."
+  -- ======== Demand 2: verdict and table are those that the rules draw from the standard; rows lie in their parents and siblings apart; and 12 says that
+  -- a level has no kept row of a pair that it must have, where nothing else went wrong before.
 
   -- on acceptance the table is the numbers of the elements taken, over the start of what was lent
   pub acceptance-writes : (t : List ℕ) → refuses (judgeVerdict book k m (length t)) ≡ false → judgeTable book k m t ≡ laid (tableOf (items book k m)) t
   acceptance-writes = accepted-table book k m
 
-  module _ (es : List Item) (e : taken book k m ≡ whole es) where
-    pub row-within-parent : headerLength m ≤ length m → (r : ℕ) → r < length es → Lies es (headerLength m) (length m) (nth es r)
-    row-within-parent = within book book-sound k m es e
+  -- `IsTable` says what a table of the message is without the walk. Where 1 to 8 pass, it holds of t exactly where the message is whole and the numbers of
+  -- its elements stand at the start of t; and of one table only
+  pub table-exactly : Passed book k m → (t : List ℕ) → IsTable book k m t ↔ ((es : List Item) × (taken book k m ≡ whole es) × Begins t es)
+  table-exactly = table-iff book book-sound k m
 
-    pub siblings-apart : (x y : ℕ) → x < y → y < length es → nth es x .parent ≡ nth es y .parent → valueEnd (nth es x) ≤ nth es y .place
-    siblings-apart = siblings book book-sound k m es e
+  pub table-unique : (t u : List ℕ) → IsTable book k m t → IsTable book k m u → (rows t ≡ rows u) × ((i : ℕ) → i < used (rows t) → getD t i 0 ≡ getD u i 0)
+  table-unique = one-table book book-sound k m
 
-    pub octet-order : (x y : ℕ) → x < y → y < length es → valuePlace (nth es x) ≤ nth es y .place
-    octet-order = in-order book book-sound k m es e
+  -- a message has a table or is cut, never both, and is cut in one place
+  pub table-or-cut-at : Passed book k m → ((t : List ℕ) × IsTable book k m t) ⊎ ((q : ℕ) × ((t : List ℕ) × IsCut book k m t q))
+  table-or-cut-at = table-or-cut book book-sound k m
 
-    pub depth-first-order : headerLength m ≤ length m → (q s r : ℕ) → q < s → s ≤ r → r < length es → nth es r .parent ≡ suc q
-        → (valuePlace (nth es q) ≤ nth es s .place) × (nth es s .place < valueEnd (nth es q))
-    depth-first-order = depth-first book book-sound k m es e
+  pub not-both : (t u : List ℕ) (q : ℕ) → IsTable book k m t → IsCut book k m u q → ⊥
+  not-both = never-both book book-sound k m
 
-    pub parents-kept : isMessage book (messageType m) ≡ true → (q r : ℕ) → r < length es → nth es r .parent ≡ suc q
-        → (q < r) × (nth es q .stand ≡ kept) × (isGroup (nth es q .typ) ≡ true)
-    parents-kept = parent-kept book book-sound k m es e
+  pub cut-in-one-place : (t u : List ℕ) (q q′ : ℕ) → IsCut book k m t q → IsCut book k m u q′ → q ≡ q′
+  cut-in-one-place = cut-once book book-sound k m
 
-    pub at-most-1022 : length m ≤ 4096 → length es ≤ 1022
-    at-most-1022 = few-rows book k m es e
+  -- the judge accepts and leaves `left` exactly where a table of the message stands in it, no mandatory row of that is short and none is missing, and the
+  -- rest is as it was lent
+  pub accepts-exactly : (lent left : List ℕ) → ((judgeVerdict book k m (length lent) ≡ accepted) × (judgeTable book k m lent ≡ left)) ↔ Leaves book k m lent left
+  accepts-exactly = accepts-iff book book-sound k m
 
-  -- 12, over the six numbers of the rows: `judgeConditions` number 11 is `Lacks`, some required pair with no kept row whose parent is that level
-  pub mandatory-missing : (room : ℕ) → (judgeVerdict book k m room .code ≡ 12) ↔ OwnWords book k m (judgeConditions book k m room) 11
-  mandatory-missing room = judge-words book book-sound k m room 11 (lit< tt)
+  -- 9 exactly where 1 to 8 pass and there is no table of the message; and at the place q exactly where the rows before q are right and leave out nothing, and
+  -- a level goes on at q with no whole element
+  pub nine-exactly : (room : ℕ) → (judgeVerdict book k m room .code ≡ 9) ↔ (Passed book k m × ((t : List ℕ) → IsTable book k m t → ⊥))
+  nine-exactly = nine-iff book book-sound k m
 
-  -- and 11, where some row is short and its pair mandatory at its level
-  pub mandatory-short : (room : ℕ) → (judgeVerdict book k m room .code ≡ 11) ↔ OwnWords book k m (judgeConditions book k m room) 10
-  mandatory-short room = judge-words book book-sound k m room 10 (lit< tt)
+  pub nine-at-exactly : (room q : ℕ) → (judgeVerdict book k m room ≡ refusedAt 9 invalidLength q 0 0) ↔ (Passed book k m × ((t : List ℕ) × IsCut book k m t q))
+  nine-at-exactly = nine-at book book-sound k m
 
-  -- 3. "Take two messages of one length on one interface that agree in each octet not covered for the first, with lent buffers that start equal. Both get
-  -- the same verdict, the same table and the same masked copy."
+  -- 10 exactly where there is one and it has no room
+  pub ten-exactly : (room : ℕ) → (judgeVerdict book k m room .code ≡ 10) ↔ (Passed book k m × ((t : List ℕ) × IsTable book k m t × (room < used (rows t))))
+  ten-exactly = ten-iff book book-sound k m
+
+  -- 11 exactly where it has room and a row is short whose pair is mandatory at its level; the first such row is named
+  pub mandatory-short : (room : ℕ) → (judgeVerdict book k m room .code ≡ 11)
+      ↔ (Passed book k m × ((t : List ℕ) × IsTable book k m t × (used (rows t) ≤ room) × ((r : ℕ) × ShortRow book k (bodyLevel book m) t r)))
+  mandatory-short = eleven-iff book book-sound k m
+
+  pub mandatory-short-at : (room q y i : ℕ) → (judgeVerdict book k m room ≡ refusedAt 11 invalidLength q y i)
+      ↔ (Passed book k m × ((t : List ℕ) × IsTable book k m t × (used (rows t) ≤ room) × NamesShort book k (bodyLevel book m) t q y i))
+  mandatory-short-at = eleven-at book book-sound k m
+
+  -- 12 exactly where none is, and some level lacks a kept row of a pair that is mandatory there; the first level and its first such pair are named
+  pub mandatory-missing : (room : ℕ) → (judgeVerdict book k m room .code ≡ 12)
+      ↔ (Passed book k m
+      × ((t : List ℕ) × IsTable book k m t × (used (rows t) ≤ room) × ((r : ℕ) → ShortRow book k (bodyLevel book m) t r → ⊥)
+      × ((p : ℕ) × (j : ℕ) × Lacks book k (bodyLevel book m) t p j)))
+  mandatory-missing = twelve-iff book book-sound k m
+
+  pub mandatory-missing-at : (room q y i : ℕ) → (judgeVerdict book k m room ≡ refusedAt 12 mandatoryMissing q y i)
+      ↔ (Passed book k m
+      × ((t : List ℕ) × IsTable book k m t × (used (rows t) ≤ room) × ((r : ℕ) → ShortRow book k (bodyLevel book m) t r → ⊥)
+      × NamesLack book k (bodyLevel book m) t q y i))
+  mandatory-missing-at = twelve-at book book-sound k m
+
+  -- the masker makes a copy exactly where there is a table and the copy has room, whatever 10, 11 and 12 say; and says 13 exactly where only
+  -- the room is missing
+  pub masks-exactly : (room : ℕ) → (maskVerdict book k m room ≡ accepted) ↔ ((Passed book k m × ((t : List ℕ) × IsTable book k m t)) × (length m ≤ room))
+  masks-exactly = masks-iff book book-sound k m
+
+  pub thirteen-exactly : (room : ℕ) → (maskVerdict book k m room .code ≡ 13) ↔ ((Passed book k m × ((t : List ℕ) × IsTable book k m t)) × (room < length m))
+  thirteen-exactly = thirteen-iff book book-sound k m
+
+  -- ---- the rows of a table of the message, by their six numbers
+
+  module _ (t : List ℕ) (x : IsTable book k m t) where
+    -- a row, header and value, lies in its parent's value, or in the body; siblings do not overlap
+    pub row-within-parent : (r : ℕ) → r < rows t → Inside m t r
+    row-within-parent = x .right .inside
+
+    pub row-in-message : (r : ℕ) → r < rows t → rowEnd t r ≤ length m
+    row-in-message = in-message book k m t (x .right)
+
+    pub siblings-apart : (x y : ℕ) → x < y → y < rows t → rowParent t x ≡ rowParent t y → rowEnd t x ≤ rowStart t y
+    siblings-apart = x .right .apart
+
+    -- rows stand in octet order, depth first: what stands between a row and its parent's row is inside that parent
+    pub octet-order : (x y : ℕ) → x < y → y < rows t → rowPlace t x < rowPlace t y
+    octet-order = x .right .order
+
+    pub depth-first-order : (q s r : ℕ) → q < s → s ≤ r → r < rows t → rowParent t r ≡ suc q
+        → (suc q ≤ rowParent t s) × (rowPlace t q ≤ rowStart t s) × (rowStart t s < rowEnd t q)
+    depth-first-order = between book k m t (x .right)
+
+    -- a parent is the message or a kept group's row, and stands before; each kept group's inside is listed, and no other
+    pub parents-kept : (r : ℕ) → r < rows t → IsLevel t (rowParent t r)
+    parents-kept = x .right .parents
+
+    pub parents-before : (r : ℕ) → r < rows t → rowParent t r ≤ r
+    parents-before = backward book k m t (x .right)
+
+    pub entered-exactly : (r : ℕ) → r < rows t → (0 < levelOf book k (bodyLevel book m) t (suc r)) ↔ KeptGroup t r
+    entered-exactly r l = (
+      level-group book book-sound k (bodyLevel book m) t r l (parents-before r l),
+      λ g. group-level book book-sound k (bodyLevel book m) t r l (parents-before r l) (kept-listed book k m t r (x .right .standing r l) (g .stand)) g,
+    )
+
+    -- a row says what the four octets before its value say
+    pub rows-faithful : (r : ℕ) → r < rows t → Faithful m t r
+    rows-faithful = x .right .faithful
+
+    -- the rows of the message, and of each kept group, tile its value: no octet is skipped, and none stands in two
+    pub rows-tile : (p : ℕ) → IsLevel t p → Tiles m t p
+    rows-tile = tiles book k m t x
+
+    -- the header: kept rows, place of the first row, numbers used; and there are never more rows than the body has room for headers
+    pub kept-counted : keptCount t ≡ keptAmong t (rows t)
+    kept-counted = x .right .kept-rows
+
+    pub first-row-at : firstRow t ≡ headerNumbers
+    first-row-at = x .right .first-row
+
+    pub used-counted : numbersUsed t ≡ used (rows t)
+    used-counted = x .right .numbers-used
+
+    pub rows-fit-body : headerLength m + elementHeader * rows t ≤ length m
+    rows-fit-body = few book book-sound k m t x
+
+    pub at-most-1022 : length m ≤ largestMessage → rows t ≤ mostRows
+    at-most-1022 l = omega (arith, l, rows-fit-body, header-least m)
+
+    -- a pair is listed where some line of its level lists it for this kind.
+    -- Standing 1 exactly where the pair is not listed at the row's level for this kind; 2 where it is, is not marked *, and an earlier row has that parent and
+    -- pair; 3 where neither and the value is below the least length; 0 otherwise
+    pub listed-exactly : (r : ℕ) → Listed book k m t r
+        ↔ ((j : ℕ) × (j < length (itsListing book k m t r)) × (lists k (rowType t r) (rowInstance t r) (getD (itsListing book k m t r) j noLine) ≡ true))
+    listed-exactly = listed-iff book k m t
+
+    module _ (r : ℕ) (l : r < rows t) where
+      pub one-exactly : (rowStanding t r ≡ unexpected) ↔ (Listed book k m t r → ⊥)
+      one-exactly = unexpected-iff book k m t (x .right) r l
+
+      pub two-exactly : (rowStanding t r ≡ repeated) ↔ (Listed book k m t r × Again book k m t r)
+      two-exactly = repeated-iff book k m t (x .right) r l
+
+      pub three-exactly : (rowStanding t r ≡ short) ↔ (Listed book k m t r × (Again book k m t r → ⊥) × Below book k m t r)
+      three-exactly = short-iff book k m t (x .right) r l
+
+      pub zero-exactly : (rowStanding t r ≡ kept) ↔ (Listed book k m t r × (Again book k m t r → ⊥) × (Below book k m t r → ⊥))
+      zero-exactly = kept-iff book k m t (x .right) r l
+
+  -- ======== Demand 3: a message that differs in covered octets at most is judged, tabled and masked alike.
+
+  -- an octet is covered exactly where 1 to 9 pass and a row of the message's table covers it
+  pub covered-exactly : (j : ℕ) → (covered book k m j ≡ true) ↔ (Passed book k m × ((t : List ℕ) × IsTable book k m t × ((r : ℕ) × ValueOver t j r × Covers t j r)))
+  covered-exactly = covered-iff book book-sound k m
 
   module _ (n : List ℕ) (s : SameOpen book k m n) where
     pub both-verdict : (room : ℕ) → judgeVerdict book k n room ≡ judgeVerdict book k m room
@@ -111,9 +279,7 @@ module _ (k : ℕ) (m : List ℕ) where
     pub both-copy : (c : List ℕ) → maskCopy book k n c ≡ maskCopy book k m c
     both-copy = same-copy book book-sound k m n s
 
-  -- "Where a copy is made, it holds zero in each covered octet and the message's own octet elsewhere; judged with an equal table, it gets the message's own
-  -- verdict and table."
-
+  -- a copy that is made is zero in each covered octet and the message's own elsewhere, and is judged and tabled as the message is
   module _ (c : List ℕ) (made : refuses (maskVerdict book k m (length c)) ≡ false) where
     pub copy-holds : (j : ℕ) → j < length m → getD (maskCopy book k m c) j 0 ≡ cond (covered book k m j) 0 (getD m j 0)
     copy-holds = copy-octet book book-sound k m c made
@@ -127,7 +293,7 @@ module _ (k : ℕ) (m : List ℕ) where
     pub copy-tabled : (t : List ℕ) → judgeTable book k (take (length m) (maskCopy book k m c)) t ≡ judgeTable book k m t
     copy-tabled = copy-table book book-sound k m c made
 
-  -- What a reader expects besides.
+  -- ======== What a reader expects besides.
 
   pub mask-twice : refuses (first (framingChecks book k m)) ≡ false → masked book k (masked book k m) ≡ masked book k m
   mask-twice = masked-twice book book-sound k m
@@ -135,10 +301,136 @@ module _ (k : ℕ) (m : List ℕ) where
   pub header-not-covered : (j : ℕ) → j < headerLength m → covered book k m j ≡ false
   header-not-covered = header-open book k m
 
-  pub element-header-not-covered : (r : ℕ) → r < length (items book k m) → (j : ℕ) → nth (items book k m) r .place ≤ j → j < valuePlace (nth (items book k m) r) → covered book k m j ≡ false
-  element-header-not-covered = row-header-open book book-sound k m
+  pub element-header-not-covered : (t : List ℕ) → IsTable book k m t → (r : ℕ) → r < rows t → (j : ℕ) → rowStart t r ≤ j → j < rowPlace t r → covered book k m j ≡ false
+  element-header-not-covered = element-header-open book book-sound k m
 
 -- without the right, what the desk's lookup answers does not depend on a covered octet
 pub desk-blind : (k : ℕ) (copy table : List ℕ) (row : ℕ) (m n mCopy nCopy mPart nPart : RefT (List ℕ))
     → AtDesk book k copy table row m mCopy mPart → AtDesk book k copy table row n nCopy nPart → SameOpen book k (now m) (now n) → now nPart ≡ now mPart
 desk-blind k copy table row m n mCopy nCopy mPart nPart a c s = desk-part book book-sound k copy table row a c s
+
+-- ======== The same on the contracts of the public functions: of any answers that they allow.
+
+-- ---- the judge
+
+module _ {k : ℕ} {m lent : List ℕ} {v : Verdict} {left : List ℕ} (c : Judged k m lent v left) where
+  pub judged-in-its-case : (j : ℕ) → j < length judgeNumbers → (v .code ≡ getD judgeNumbers j 0) ↔ OwnWords (judgeConditions book k m (length lent)) j
+  judged-in-its-case j l = rw (c .answers) (judge-in-its-case k m (length lent) j l)
+
+  pub judged-one-of : OneOf judgeNumbers v
+  judged-one-of = rw (c .answers) (judge-one-of k m (length lent))
+
+  pub judged-refused : refuses v ≡ true → left ≡ lent
+  judged-refused e = c .table-left ∙ refusal-leaves-table k m lent (rw (c .answers) at e)
+
+  -- it accepts exactly where what is left is a table of the message with nothing mandatory short or missing, and all else as it was lent
+  pub judged-exactly : (v ≡ accepted) ↔ Leaves book k m lent left
+  judged-exactly = (
+    λ a. accepts-exactly k m lent left .0 (sym (c .answers) ∙ a, sym (c .table-left)),
+    λ x. c .answers ∙ accepts-exactly k m lent left .1 x .0,
+  )
+
+  -- so all that is said of the rows of a table holds of what is left
+  pub judged-table : v ≡ accepted → IsTable book k m left
+  judged-table a = judged-exactly .0 a .accepts .table
+
+-- ---- the masker
+
+module _ {k : ℕ} {m lent : List ℕ} {v : Verdict} {left : List ℕ} (c : Masked k m lent v left) where
+  pub masked-in-its-case : (j : ℕ) → j < length maskNumbers → (v .code ≡ getD maskNumbers j 0) ↔ OwnWords (maskConditions book k m (length lent)) j
+  masked-in-its-case j l = rw (c .answers) (mask-in-its-case k m (length lent) j l)
+
+  pub masked-one-of : OneOf maskNumbers v
+  masked-one-of = rw (c .answers) (mask-one-of k m (length lent))
+
+  pub masked-refused : refuses v ≡ true → left ≡ lent
+  masked-refused e = c .copy-left ∙ refusal-leaves-copy k m lent (rw (c .answers) at e)
+
+  pub masked-holds : v ≡ accepted → (j : ℕ) → j < length m → getD left j 0 ≡ cond (covered book k m j) 0 (getD m j 0)
+  masked-holds a j l = rw (c .copy-left) (copy-holds k m lent (rw (sym (c .answers) ∙ a)) j l)
+
+  pub masked-stays : v ≡ accepted → (j : ℕ) → length m ≤ j → getD left j 0 ≡ getD lent j 0
+  masked-stays a j l = rw (c .copy-left) (copy-stays k m lent (rw (sym (c .answers) ∙ a)) j l)
+
+  -- the copy judged with an equal table gets the message's own answers
+  pub masked-judged : v ≡ accepted → {t : List ℕ} {a d : Verdict} {l u : List ℕ} → Judged k m t a l → Judged k (take (length m) left) t d u → (d ≡ a) × (u ≡ l)
+  masked-judged e = two-judged k m (take (length m) left) (copied c e)
+
+-- ---- the exports: what the C receiver reads, two octets a number
+
+module _ {k : ℕ} {m lent lentFive : List ℕ} {code : ℕ} {left leftFive : List ℕ} (c : JudgedOctets k m lent lentFive code left leftFive) where
+  pub octets-in-its-case : (j : ℕ) → j < length judgeNumbers → (code ≡ getD judgeNumbers j 0) ↔ OwnWords (judgeConditions book k m (tableRoom lent)) j
+  octets-in-its-case j l = rw (c .answers) (judge-in-its-case k m (tableRoom lent) j l)
+
+  pub octets-one-of : (code ≡ 0) ⊎ (among code judgeNumbers ≡ true)
+  octets-one-of = rw (c .answers) (code-of judgeNumbers (judgeVerdict book k m (tableRoom lent)) (judge-one-of k m (tableRoom lent)))
+
+  -- the code is 0 exactly where a table is read that is accepted, in octets of the same length, and past those used they are as they were; on any other all are
+  pub octets-exactly : (code ≡ 0) ↔ LeavesOctets book k m lent left
+  octets-exactly = (export-leaves k m lent lentFive code left leftFive c, leaves-export k m lent lentFive code left leftFive c)
+
+  pub octets-refused : 0 < code → left ≡ lent
+  octets-refused = export-refused k m lent lentFive code left leftFive c
+
+  -- the five numbers that are read are the verdict's, the code first, if there is room for them; else nothing is written
+  pub octets-five : fiveOctets ≤ length lentFive → take 5 (numbersIn leftFive) ≡ five (judgeVerdict book k m (tableRoom lent))
+  octets-five = five-read lentFive leftFive (judgeVerdict book k m (tableRoom lent)) (c .five-left)
+
+  pub octets-five-short : length lentFive < fiveOctets → leftFive ≡ lentFive
+  octets-five-short = five-short lentFive leftFive (judgeVerdict book k m (tableRoom lent)) (c .five-left)
+
+module _ {k : ℕ} {m lent lentFive : List ℕ} {code : ℕ} {left leftFive : List ℕ} (c : MaskedOctets k m lent lentFive code left leftFive) where
+  pub mask-octets-one-of : (code ≡ 0) ⊎ (among code maskNumbers ≡ true)
+  mask-octets-one-of = rw (c .answers) (code-of maskNumbers (maskVerdict book k m (length lent)) (mask-one-of k m (length lent)))
+
+  -- the masker's export leaves the copy that the masker leaves
+  pub mask-octets-masked : (v : Verdict) (copy : List ℕ) → Masked k m lent v copy → (code ≡ v .code) × (left ≡ copy)
+  mask-octets-masked v copy x = (c .answers ∙ sym (ap (λ (w : Verdict). w .code) (x .answers)), c .copy-left ∙ sym (x .copy-left))
+
+  pub mask-octets-five : fiveOctets ≤ length lentFive → take 5 (numbersIn leftFive) ≡ five (maskVerdict book k m (length lent))
+  mask-octets-five = five-read lentFive leftFive (maskVerdict book k m (length lent)) (c .five-left)
+
+  pub mask-octets-five-short : length lentFive < fiveOctets → leftFive ≡ lentFive
+  mask-octets-five-short = five-short lentFive leftFive (maskVerdict book k m (length lent)) (c .five-left)
+
+  -- the copy judged through the export with equal buffers gets the message's own code, table octets and five numbers
+  pub mask-octets-judged : code ≡ 0 → {t f : List ℕ} {a d : ℕ} {l u g h : List ℕ} → JudgedOctets k m t f a l g → JudgedOctets k (take (length m) left) t f d u h
+      → (d ≡ a) × (u ≡ l) × (h ≡ g)
+  mask-octets-judged e = two-judged-octets k m (take (length m) left) (copied-octets c e)
+
+-- ---- two messages of one length that differ in covered octets alone, and equal buffers
+
+module _ {k : ℕ} {m n : List ℕ} (s : SameOpen book k m n) where
+  pub both-judged : {t : List ℕ} {v w : Verdict} {l u : List ℕ} → Judged k m t v l → Judged k n t w u → (w ≡ v) × (u ≡ l)
+  both-judged = two-judged k m n s
+
+  pub both-masked : {c : List ℕ} {v w : Verdict} {l u : List ℕ} → Masked k m c v l → Masked k n c w u → (w ≡ v) × (u ≡ l)
+  both-masked = two-masked k m n s
+
+  pub both-judged-octets : {t f : List ℕ} {c d : ℕ} {l u g h : List ℕ} → JudgedOctets k m t f c l g → JudgedOctets k n t f d u h → (d ≡ c) × (u ≡ l) × (h ≡ g)
+  both-judged-octets = two-judged-octets k m n s
+
+  pub both-masked-octets : {o f : List ℕ} {c d : ℕ} {l u g h : List ℕ} → MaskedOctets k m o f c l g → MaskedOctets k n o f d u h → (d ≡ c) × (u ≡ l) × (h ≡ g)
+  both-masked-octets = two-masked-octets k m n s
+
+-- ---- the lookups, on a table that the judge wrote
+
+module _ {k : ℕ} {lent : List ℕ} {v : Verdict} {left : List ℕ} (message : RefT (List ℕ)) (c : Judged k (now message) lent v left) (a : v ≡ accepted) where
+  -- the desk's, with a copy of the message's length and either right: it finds each row below the count and no other, and answers where its value stands
+  module _ (copy : RefT (List ℕ)) (same : length (now copy) ≡ length (now message)) (right : Bool) (r : ℕ) where
+    pub desk-finds : (answer : Bool) → DeskFound r right (now message) (now copy) left answer → (answer ≡ true) ↔ (r < rows left)
+    desk-finds answer e = rw e (desk-found book k (now message) left (judged-table c a) (length (now copy)) same r)
+
+    pub desk-answers : r < rows left → (part : RefT (List ℕ)) → Desk r right message copy left part → Stands (cond right message copy) (valueOf left r) part
+    desk-answers l part d = rw (desk-span book k (now message) left (judged-table c a) (length (now copy)) same r l) at d
+
+  -- the plain one: it finds a pair exactly where a kept row with parent 0 has it, and answers where the first such row's value stands
+  pub plain-finds : (y i : ℕ) (answer : Bool) → PlainFound y i (now message) left answer → (answer ≡ true) ↔ ((r : ℕ) × TopRow left y i r)
+  plain-finds y i answer e = rw e (plain-found book k (now message) left (judged-table c a) y i)
+
+  pub plain-answers : (y i r : ℕ) → FirstTopRow left y i r → (part : RefT (List ℕ)) → Plain y i message left part → Stands message (valueOf left r) part
+  plain-answers y i r f part d = rw (plain-span book k (now message) left (judged-table c a) y i r f) at d
+
+  -- and such a part lies in the message
+  pub found-in-message : (r : ℕ) → r < rows left → rowEnd left r ≤ length (now message)
+  found-in-message = row-in-message k (now message) left (judged-table c a)

@@ -1,130 +1,159 @@
--- The stand-ins of document 01 are turned down, each through the example that it names there. Assumes nothing.
+-- Functions that only look like a judge, a masker or a lookup are turned down, each by an example. Assumes nothing.
 use mathlib.Core.Path.{_≡_, refl, sym, ap, _∙_}
 use mathlib.Core.Logic.{_≢_}
-use mathlib.Core.Bool.{Bool, true, false, cond}
-use mathlib.Core.List.{List, [], _∷_, _++_, map}
-use Prim.Native.Nat.{ℕ, zero, suc, _+_, _≤_, _<_}
+use mathlib.Core.Bool.{Bool, true, false}
+use mathlib.Core.List.{List, []}
+use Prim.Native.Nat.{ℕ}
 use native.Mathlib.Omega.{arith}
-use lib.ListN.{length, take, drop, getD, replicate}
+use lib.ListN.{length, getD, replicate}
 use denote.Ref.{RefT, now}
-use Rattle.rules.specs.Sizes.{used}
 use Rattle.rules.specs.Framing.{version, flagP, flagT, messageType, lengthField, headerLength, headOf}
-use Rattle.rules.specs.Types.{leastOf87, leastOf79, leastByType, leastOf, wholeTypes, coversWhole, coversRest}
+use Rattle.rules.specs.Types.{leastOf87, leastOf79, leastByType, leastOf}
 use Rattle.rules.specs.Listings.{levels, messages, book, seek, seekMessage, listing, messageOf, isMessage}
 use Rattle.rules.specs.Standing.{isShort, markAfter, standing, marked, entered, itemOf}
 use Rattle.rules.specs.Taking.{run, walk, itemsOf, bodyLevel, taken}
-use Rattle.rules.specs.Table.{rowsOf, keptRows, header, tableOf, laid}
+use Rattle.rules.specs.Table.{header, tableOf, laid}
 use Rattle.rules.specs.Verdicts.{accepted, refusedAt, check, refuses, first, shortChecks, hasKept, levelChecks, groupChecks, lackChecks, headerChecks, framingChecks, judgeChecks, judgeVerdict, items}
 use Rattle.rules.specs.Values.{tableRows, rowSpan, deskSpan, isPlain, seekPlain, plainSpan}
-use Rattle.rules.specs.Examples.{judging, masking, Outcome, examples, outcome, written, sevens, messageD, messageE, messageG, headG, messageM}
+use Rattle.rules.specs.Examples.{judging, masking, Outcome, examples, sevens, messageD, messageE, messageG, messageM, head, line}
 use Rattle.rules.specs.declared.Verdict.{Verdict}
-use Rattle.rules.proofs.Examples.{a-to-m}
-use Rattle.promises.specs.StandIns.{Answer, Function, IsJudge, IsMasker, Lookup, IsPlain, DeskLookup, IsDesk, outerLine, outerLines, outerLevels, outerBook}
-use Rattle.promises.proofs.Left.{accepted-table}
+use Rattle.verdicts.proofs.Laying.{accepted-table}
+use Rattle.promises.proofs.Examples.{example, writtenOf, asked, messageI, messageJ}
+use Rattle.promises.specs.StandIns.{below, octetBound, numberBound, Function, Given, IsJudge, IsMasker, Lookup, GivenPair, IsPlain, DeskLookup, GivenRow, IsDesk, outerLine, outerLines, outerLevels, outerBook}
 
 -- ---- what comes out of the examples
 
-nothing : Outcome
-nothing = record { verdict = accepted; left = [] }
-
--- example number n of the table, counted from 0
-example : (n : ℕ) → getD (map outcome examples) n nothing ≡ getD (map written examples) n nothing
-example n = ap (λ (l : List Outcome). getD l n nothing) a-to-m
-
 -- an answer that meets the judge's contract says what the example says
-judges-as : (f : Function) → IsJudge f → (k : ℕ) (m : List ℕ) (o : Outcome)
-    → outcome (record { letter = 0; call = judging; kind = k; message = m; lent = sevens; verdict = accepted; left = [] }) ≡ o
+judges-as : (f : Function) → IsJudge f → (k : ℕ) (m : List ℕ) → Given numberBound k m sevens → (o : Outcome)
+    → asked judging k m ≡ o
     → (f k m sevens .verdict ≡ o .verdict) × (f k m sevens .left ≡ o .left)
-judges-as f j k m o e = (j k m sevens .answers ∙ ap (λ (x : Outcome). x .verdict) e, j k m sevens .table-left ∙ ap (λ (x : Outcome). x .left) e)
+judges-as f j k m g o e = (j k m sevens g .answers ∙ ap (λ (x : Outcome). x .verdict) e, j k m sevens g .table-left ∙ ap (λ (x : Outcome). x .left) e)
 
-masks-as : (f : Function) → IsMasker f → (k : ℕ) (m : List ℕ) (o : Outcome)
-    → outcome (record { letter = 0; call = masking; kind = k; message = m; lent = sevens; verdict = accepted; left = [] }) ≡ o
+masks-as : (f : Function) → IsMasker f → (k : ℕ) (m : List ℕ) → Given octetBound k m sevens → (o : Outcome)
+    → asked masking k m ≡ o
     → (f k m sevens .verdict ≡ o .verdict) × (f k m sevens .left ≡ o .left)
-masks-as f j k m o e = (j k m sevens .answers ∙ ap (λ (x : Outcome). x .verdict) e, j k m sevens .copy-left ∙ ap (λ (x : Outcome). x .left) e)
+masks-as f j k m g o e = (j k m sevens g .answers ∙ ap (λ (x : Outcome). x .verdict) e, j k m sevens g .copy-left ∙ ap (λ (x : Outcome). x .left) e)
 
 clash : _≡_ {A = ℕ} 0 1 → ⊥
 clash e = omega arith
 
+-- the examples can be given to the code
+given-d : Given numberBound 1 messageD sevens
+unfolding below
+given-d = record { kind = refl; octets = refl; numbers = refl }
+
+given-e : Given numberBound 1 messageE sevens
+unfolding below
+given-e = record { kind = refl; octets = refl; numbers = refl }
+
+given-i : Given numberBound 1 messageI sevens
+unfolding below
+given-i = record { kind = refl; octets = refl; numbers = refl }
+
+given-j : Given numberBound 1 messageJ sevens
+unfolding below
+given-j = record { kind = refl; octets = refl; numbers = refl }
+
+given-m : Given octetBound 1 messageM sevens
+unfolding below
+given-m = record { kind = refl; octets = refl; numbers = refl }
+
 -- ---- judges
 
--- a judge that refuses always (D)
-pub refuses-always : (f : Function) → ((k : ℕ) (m t : List ℕ) → refuses (f k m t .verdict) ≡ true) → IsJudge f → ⊥
-unfolding examples
-refuses-always f r j =
-    let d = judges-as f j 1 messageD (getD (map written examples) 3 nothing) (example 3) in
-    let z : refuses accepted ≡ true = rw (d .0) at (r 1 messageD sevens) in let y : _≡_ {A = ℕ} 0 1 = cc in clash y
+module _ (f : Function) (j : IsJudge f) where
+  -- a judge that refuses always (D)
+  pub refuses-always : ((k : ℕ) (m t : List ℕ) → Given numberBound k m t → refuses (f k m t .verdict) ≡ true) → ⊥
+  unfolding examples
+  refuses-always r =
+      let d = judges-as f j 1 messageD given-d (writtenOf 3) (example 3) in
+      let z : refuses accepted ≡ true = rw (d .0) at (r 1 messageD sevens given-d) in let y : _≡_ {A = ℕ} 0 1 = cc in clash y
 
--- a judge that accepts always, with one table or any (E)
-pub accepts-always : (f : Function) → ((k : ℕ) (m t : List ℕ) → f k m t .verdict ≡ accepted) → IsJudge f → ⊥
-unfolding examples
-accepts-always f a j =
-    let e = judges-as f j 1 messageE (getD (map written examples) 5 nothing) (example 5) in
-    let z : accepted ≡ refusedAt 12 70 0 3 0 = sym (a 1 messageE sevens) ∙ e .0 in omega (arith, ap (λ (v : Verdict). v .code) z)
+  -- a judge that accepts always, with one table or any (E)
+  pub accepts-always : ((k : ℕ) (m t : List ℕ) → Given numberBound k m t → f k m t .verdict ≡ accepted) → ⊥
+  unfolding examples
+  accepts-always a =
+      let e = judges-as f j 1 messageE given-e (writtenOf 5) (example 5) in
+      let z : accepted ≡ refusedAt 12 70 0 3 0 = sym (a 1 messageE sevens given-e) ∙ e .0 in omega (arith, ap (λ (v : Verdict). v .code) z)
 
--- a judge that leaves one table, whatever it is asked (D and E: what D leaves is not what E leaves)
-pub one-table : (f : Function) (t : List ℕ) → ((k : ℕ) (m l : List ℕ) → f k m l .left ≡ t) → IsJudge f → ⊥
-unfolding examples
-one-table f t a j =
-    let d = judges-as f j 1 messageD (getD (map written examples) 3 nothing) (example 3) in
-    let e = judges-as f j 1 messageE (getD (map written examples) 5 nothing) (example 5) in
-    omega (arith, ap (λ (l : List ℕ). getD l 0 0) (sym (d .1) ∙ a 1 messageD sevens ∙ sym (a 1 messageE sevens) ∙ e .1))
+  -- a judge that leaves one table, whatever it is asked (D and E: what D leaves is not what E leaves)
+  pub one-table : (t : List ℕ) → ((k : ℕ) (m l : List ℕ) → Given numberBound k m l → f k m l .left ≡ t) → ⊥
+  unfolding examples
+  one-table t a =
+      let d = judges-as f j 1 messageD given-d (writtenOf 3) (example 3) in
+      let e = judges-as f j 1 messageE given-e (writtenOf 5) (example 5) in
+      omega (arith, ap (λ (l : List ℕ). getD l 0 0) (sym (d .1) ∙ a 1 messageD sevens given-d ∙ sym (a 1 messageE sevens given-e) ∙ e .1))
 
--- a judge that does the message level and only pretends inside groups (I and J): it would accept both
-outer-accepts-i : judgeVerdict outerBook 1 (headG 0x0C ++ (0x5D ∷ 0x00 ∷ 0x00 ∷ 0x00 ∷ [])) 23 ≡ accepted
-unfolding outerBook outerLevels outerLines outerLine version flagP flagT messageType lengthField headerLength headOf leastOf87 leastOf79 leastByType leastOf levels messages book seek seekMessage listing messageOf isMessage isShort markAfter standing marked entered itemOf run walk itemsOf bodyLevel taken check first shortChecks hasKept levelChecks groupChecks lackChecks headerChecks framingChecks judgeChecks
-outer-accepts-i = refl
+  -- a judge that reads the body alone and makes up what groups hold accepts I and J; so the one alone turns it down, and so does the other
+  outer-accepts-i : judgeVerdict outerBook 1 messageI (length sevens) ≡ accepted
+  unfolding outerBook outerLevels outerLines outerLine version flagP flagT messageType lengthField headerLength headOf leastOf87 leastOf79 leastByType leastOf levels messages book seek seekMessage listing messageOf isMessage isShort markAfter standing marked entered itemOf run walk itemsOf bodyLevel taken check first shortChecks hasKept levelChecks groupChecks lackChecks headerChecks framingChecks judgeChecks
+  outer-accepts-i = refl
 
-pub pretends-inside : (f : Function) → ((k : ℕ) (m t : List ℕ) → f k m t .verdict ≡ judgeVerdict outerBook k m (length t)) → IsJudge f → ⊥
-unfolding examples
-pretends-inside f p j =
-    let m = headG 0x0C ++ (0x5D ∷ 0x00 ∷ 0x00 ∷ 0x00 ∷ []) in
-    let i = judges-as f j 1 m (getD (map written examples) 10 nothing) (example 10) in
-    let z : accepted ≡ refusedAt 12 70 12 73 0 = sym outer-accepts-i ∙ sym (p 1 m sevens) ∙ i .0 in omega (arith, ap (λ (v : Verdict). v .code) z)
+  outer-accepts-j : judgeVerdict outerBook 1 messageJ (length sevens) ≡ accepted
+  unfolding outerBook outerLevels outerLines outerLine version flagP flagT messageType lengthField headerLength headOf leastOf87 leastOf79 leastByType leastOf levels messages book seek seekMessage listing messageOf isMessage isShort markAfter standing marked entered itemOf run walk itemsOf bodyLevel taken check first shortChecks hasKept levelChecks groupChecks lackChecks headerChecks framingChecks judgeChecks
+  outer-accepts-j = refl
 
--- any judge that accepts J, as the old decoder did
-pub accepts-j : (f : Function) → IsJudge f
-    → f 1 (headG 0x1A ++ (0x5D ∷ 0x00 ∷ 0x05 ∷ 0x00 ∷ 0x49 ∷ 0x00 ∷ 0x0A ∷ 0x00 ∷ 0x05 ∷ 0x5D ∷ 0x00 ∷ 0x05 ∷ 0x00 ∷ 0x49 ∷ 0x00 ∷ 0x01 ∷ 0x00 ∷ 0x06 ∷ [])) sevens .verdict ≡ accepted → ⊥
-unfolding examples
-accepts-j f j a =
-    let m = headG 0x1A ++ (0x5D ∷ 0x00 ∷ 0x05 ∷ 0x00 ∷ 0x49 ∷ 0x00 ∷ 0x0A ∷ 0x00 ∷ 0x05 ∷ 0x5D ∷ 0x00 ∷ 0x05 ∷ 0x00 ∷ 0x49 ∷ 0x00 ∷ 0x01 ∷ 0x00 ∷ 0x06 ∷ []) in
-    let x = judges-as f j 1 m (getD (map written examples) 11 nothing) (example 11) in omega (arith, ap (λ (v : Verdict). v .code) (sym a ∙ x .0))
+  pub pretends-inside-i : f 1 messageI sevens .verdict ≡ judgeVerdict outerBook 1 messageI (length sevens) → ⊥
+  unfolding examples
+  pretends-inside-i p =
+      let i = judges-as f j 1 messageI given-i (writtenOf 10) (example 10) in
+      let z : accepted ≡ refusedAt 12 70 12 73 0 = sym outer-accepts-i ∙ sym p ∙ i .0 in omega (arith, ap (λ (v : Verdict). v .code) z)
 
--- a row count that is not the number of elements taken
-pub wrong-count : (f : Function) (k : ℕ) (m t : List ℕ) → refuses (f k m t .verdict) ≡ false → getD (f k m t .left) 0 0 ≢ length (items book k m) → IsJudge f → ⊥
-unfolding laid tableOf header
-wrong-count f k m t a n j =
-    let e : refuses (judgeVerdict book k m (length t)) ≡ false = rw (j k m t .answers) at a in
-    n (ap (λ (l : List ℕ). getD l 0 0) (j k m t .table-left ∙ accepted-table book k m t e))
+  -- any judge that accepts J, as the old decoder did
+  pub accepts-j : f 1 messageJ sevens .verdict ≡ accepted → ⊥
+  unfolding examples
+  accepts-j a =
+      let x = judges-as f j 1 messageJ given-j (writtenOf 11) (example 11) in omega (arith, ap (λ (v : Verdict). v .code) (sym a ∙ x .0))
+
+  pub pretends-inside-j : f 1 messageJ sevens .verdict ≡ judgeVerdict outerBook 1 messageJ (length sevens) → ⊥
+  pretends-inside-j p = accepts-j (p ∙ outer-accepts-j)
+
+  pub pretends-inside : ((k : ℕ) (m t : List ℕ) → Given numberBound k m t → f k m t .verdict ≡ judgeVerdict outerBook k m (length t)) → ⊥
+  pretends-inside p = pretends-inside-i (p 1 messageI sevens given-i)
+
+  -- a row count that is not the number of elements taken
+  pub wrong-count : (k : ℕ) (m t : List ℕ) → Given numberBound k m t → refuses (f k m t .verdict) ≡ false → getD (f k m t .left) 0 0 ≢ length (items book k m) → ⊥
+  unfolding laid tableOf header
+  wrong-count k m t g a n =
+      let e : refuses (judgeVerdict book k m (length t)) ≡ false = rw (j k m t g .answers) at a in
+      n (ap (λ (l : List ℕ). getD l 0 0) (j k m t g .table-left ∙ accepted-table book k m t e))
 
 -- ---- maskers
 
--- a masker that refuses always (M)
-pub mask-refuses-always : (f : Function) → ((k : ℕ) (m c : List ℕ) → refuses (f k m c .verdict) ≡ true) → IsMasker f → ⊥
-unfolding examples
-mask-refuses-always f r j =
-    let d = masks-as f j 1 messageM (getD (map written examples) 14 nothing) (example 14) in
-    let z : refuses accepted ≡ true = rw (d .0) at (r 1 messageM sevens) in let y : _≡_ {A = ℕ} 0 1 = cc in clash y
+-- what a masker leaves, at least where it makes a copy
+abbrev pub Makes : Function → (List ℕ → List ℕ → List ℕ) → Type 0
+Makes f left = (k : ℕ) (m c : List ℕ) → Given octetBound k m c → refuses (f k m c .verdict) ≡ false → f k m c .left ≡ left m c
 
--- one that leaves the copy untouched (M: the copy begins with the message's first octet)
-pub leaves-copy : (f : Function) → ((k : ℕ) (m c : List ℕ) → f k m c .left ≡ c) → IsMasker f → ⊥
-unfolding examples
-leaves-copy f r j =
-    let d = masks-as f j 1 messageM (getD (map written examples) 14 nothing) (example 14) in
-    omega (arith, ap (λ (l : List ℕ). getD l 0 0) (sym (r 1 messageM sevens) ∙ d .1))
+module _ (f : Function) (j : IsMasker f) where
+  -- a masker that refuses always (M)
+  pub mask-refuses-always : ((k : ℕ) (m c : List ℕ) → Given octetBound k m c → refuses (f k m c .verdict) ≡ true) → ⊥
+  unfolding examples
+  mask-refuses-always r =
+      let d = masks-as f j 1 messageM given-m (writtenOf 14) (example 14) in
+      let z : refuses accepted ≡ true = rw (d .0) at (r 1 messageM sevens given-m) in let y : _≡_ {A = ℕ} 0 1 = cc in clash y
 
--- one that copies everything (M: the copy ends with sevens)
-pub copies-all : (f : Function) → ((k : ℕ) (m c : List ℕ) → f k m c .left ≡ laid m c) → IsMasker f → ⊥
-unfolding examples laid
-copies-all f r j =
-    let d = masks-as f j 1 messageM (getD (map written examples) 14 nothing) (example 14) in
-    omega (arith, ap (λ (l : List ℕ). getD l 17 0) (sym (r 1 messageM sevens) ∙ d .1))
+  -- M: its copy begins with the message's first octet, which is neither 7 nor 0, and ends with two zeros, which the message does not
+  copy-m : (f 1 messageM sevens .verdict ≡ accepted) × (getD (f 1 messageM sevens .left) 0 0 ≡ 0x40) × (getD (f 1 messageM sevens .left) 17 0 ≡ 0)
+  unfolding examples
+  copy-m =
+      let d = masks-as f j 1 messageM given-m (writtenOf 14) (example 14) in
+      (d .0, ap (λ (l : List ℕ). getD l 0 0) (d .1), ap (λ (l : List ℕ). getD l 17 0) (d .1))
 
--- one that zeroes everything (M)
-pub zeroes-all : (f : Function) → ((k : ℕ) (m c : List ℕ) → f k m c .left ≡ laid (replicate (length m) 0) c) → IsMasker f → ⊥
-unfolding examples laid
-zeroes-all f r j =
-    let d = masks-as f j 1 messageM (getD (map written examples) 14 nothing) (example 14) in
-    omega (arith, ap (λ (l : List ℕ). getD l 0 0) (sym (r 1 messageM sevens) ∙ d .1))
+  made-m : refuses (f 1 messageM sevens .verdict) ≡ false
+  made-m = rw (copy-m .0)
+
+  -- one that leaves the copy untouched
+  pub leaves-copy : Makes f (λ m c. c) → ⊥
+  leaves-copy r = omega (arith, copy-m .1, ap (λ (l : List ℕ). getD l 0 0) (r 1 messageM sevens given-m made-m))
+
+  -- one that copies everything, even if it refuses as it should
+  pub copies-all : Makes f (λ m c. laid m c) → ⊥
+  unfolding laid
+  copies-all r = omega (arith, copy-m .2, ap (λ (l : List ℕ). getD l 17 0) (r 1 messageM sevens given-m made-m))
+
+  -- one that zeroes everything, likewise
+  pub zeroes-all : Makes f (λ m c. laid (replicate (length m) 0) c) → ⊥
+  unfolding laid
+  zeroes-all r = omega (arith, copy-m .1, ap (λ (l : List ℕ). getD l 0 0) (r 1 messageM sevens given-m made-m))
 
 -- ---- lookups that always answer the empty part (G)
 
@@ -133,12 +162,16 @@ lentG : RefT (List ℕ)
 lentG = record { ptr = (0, 0); name = 0; now = messageG }
 
 tableG : List ℕ
-tableG = 2 ∷ 2 ∷ 4 ∷ 16 ∷ 0 ∷ 93 ∷ 0 ∷ 16 ∷ 5 ∷ 0 ∷ 1 ∷ 73 ∷ 0 ∷ 20 ∷ 1 ∷ 0 ∷ []
+tableG = head 2 2 4 16 (line 0 93 0 16 5 0 (line 1 73 0 20 1 0 []))
 
-pub plain-empty : (f : Lookup) → ((t i : ℕ) (m : RefT (List ℕ)) (table : List ℕ) → now (f t i m table) ≡ []) → IsPlain f → ⊥
-unfolding lentG tableG tableRows rowSpan isPlain seekPlain plainSpan
-plain-empty f e j = omega (arith, ap length (sym (e 93 0 lentG tableG) ∙ j 93 0 lentG tableG .octets))
+pub plain-empty : (f : Lookup) → ((y i : ℕ) (m : RefT (List ℕ)) (t : List ℕ) → GivenPair y i m t → now (f y i m t) ≡ []) → IsPlain f → ⊥
+unfolding lentG tableG tableRows rowSpan isPlain seekPlain plainSpan below
+plain-empty f e j =
+    let g : GivenPair 93 0 lentG tableG = record { typ = refl; inst = refl; octets = refl; numbers = refl } in
+    omega (arith, ap length (sym (e 93 0 lentG tableG g) ∙ j 93 0 lentG tableG g .octets))
 
-pub desk-empty : (f : DeskLookup) → ((r : ℕ) (right : Bool) (m c : RefT (List ℕ)) (table : List ℕ) → now (f r right m c table) ≡ []) → IsDesk f → ⊥
-unfolding lentG tableG tableRows rowSpan deskSpan
-desk-empty f e j = omega (arith, ap length (sym (e 1 true lentG lentG tableG) ∙ j 1 true lentG lentG tableG .octets))
+pub desk-empty : (f : DeskLookup) → ((r : ℕ) (right : Bool) (m c : RefT (List ℕ)) (t : List ℕ) → GivenRow r m c t → now (f r right m c t) ≡ []) → IsDesk f → ⊥
+unfolding lentG tableG tableRows rowSpan deskSpan below
+desk-empty f e j =
+    let g : GivenRow 1 lentG lentG tableG = record { row = refl; octets = refl; copied = refl; numbers = refl } in
+    omega (arith, ap length (sym (e 1 true lentG lentG tableG g) ∙ j 1 true lentG lentG tableG g .octets))

@@ -12,7 +12,8 @@ use Rattle.rules.specs.declared.Reading.{Reading}
 use Rattle.rules.specs.declared.Decision.{Decision}
 use Rattle.rules.specs.declared.Span.{Span}
 
-both : {A : Type 0} {x y z : A} → y ≡ x → z ≡ x → y ≡ z
+-- the one law: a contract that is an equation allows one answer
+pub both : {A : Type 0} {x y z : A} → y ≡ x → z ≡ x → y ≡ z
 both e f = e ∙ sym f
 
 pub read-unique : (k : ℕ) (m rows : List ℕ) (r r′ : Reading) (l l′ : List ℕ) → Read k m rows r l → Read k m rows r′ l′ → (r ≡ r′) × (l ≡ l′)

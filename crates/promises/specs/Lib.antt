@@ -1,5 +1,4 @@
-pub mod Places
-pub mod Missing
-pub mod Conditions
 pub mod Agreeing
+pub mod Exports
+pub mod Lookups
 pub mod StandIns

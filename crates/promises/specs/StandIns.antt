@@ -1,11 +1,31 @@
--- Functions that stand in for a judge, a masker or a lookup: what it means that one meets its contract. Assumes nothing.
-use mathlib.Core.Bool.{Bool, true, false}
+-- Functions that stand in for a judge, a masker or a lookup: what it means that one meets its contract. They are asked no more than the code is: of a kind
+-- of 32 bits, octets, and numbers of 16 bits. Assumes nothing.
+use mathlib.Core.Path.{_≡_}
+use mathlib.Core.Bool.{Bool, true, _&&_}
 use mathlib.Core.List.{List, [], _∷_}
 use Prim.Native.Nat.{ℕ}
+use lib.Dec.{ltb}
 use denote.Ref.{RefT, now}
 use Rattle.rules.specs.Listings.{Book, Line, book}
 use Rattle.rules.specs.Answers.{Judged, Masked, Plain, Desk}
 use Rattle.rules.specs.declared.Verdict.{Verdict}
+
+-- every number is below a bound
+unfoldable pub below : ℕ → List ℕ → Bool
+below n [] = true
+below n (x ∷ xs) = ltb x n && below n xs
+
+abbrev pub octetBound : ℕ
+octetBound = 256
+
+abbrev pub numberBound : ℕ
+numberBound = 65536
+
+abbrev pub kindBound : ℕ
+kindBound = 4294967296
+
+abbrev pub rowBound : ℕ
+rowBound = 18446744073709551616
 
 -- from kind, message and what is lent, a verdict and what is left
 pub record Answer : Type 0 where
@@ -15,25 +35,43 @@ pub record Answer : Type 0 where
 abbrev pub Function : Type 0
 Function = ℕ → List ℕ → List ℕ → Answer
 
+-- what the code can be given: a kind, a message, and something lent whose numbers are below a bound
+pub record Given (bound k : ℕ) (m lent : List ℕ) : Type 0 where
+  pub kind : ltb k kindBound ≡ true
+  pub octets : below octetBound m ≡ true
+  pub numbers : below bound lent ≡ true
+
 abbrev pub IsJudge : Function → Type 0
-IsJudge f = (k : ℕ) (m t : List ℕ) → Judged k m t (f k m t .verdict) (f k m t .left)
+IsJudge f = (k : ℕ) (m t : List ℕ) → Given numberBound k m t → Judged k m t (f k m t .verdict) (f k m t .left)
 
 abbrev pub IsMasker : Function → Type 0
-IsMasker f = (k : ℕ) (m c : List ℕ) → Masked k m c (f k m c .verdict) (f k m c .left)
+IsMasker f = (k : ℕ) (m c : List ℕ) → Given octetBound k m c → Masked k m c (f k m c .verdict) (f k m c .left)
 
 -- from type, instance, message and table a part
 abbrev pub Lookup : Type 0
 Lookup = ℕ → ℕ → RefT (List ℕ) → List ℕ → RefT (List ℕ)
 
+pub record GivenPair (y i : ℕ) (m : RefT (List ℕ)) (t : List ℕ) : Type 0 where
+  pub typ : ltb y numberBound ≡ true
+  pub inst : ltb i numberBound ≡ true
+  pub octets : below octetBound (now m) ≡ true
+  pub numbers : below numberBound t ≡ true
+
 abbrev pub IsPlain : Lookup → Type 0
-IsPlain f = (t i : ℕ) (m : RefT (List ℕ)) (table : List ℕ) → Plain t i m table (f t i m table)
+IsPlain f = (y i : ℕ) (m : RefT (List ℕ)) (t : List ℕ) → GivenPair y i m t → Plain y i m t (f y i m t)
 
 -- from row, right, message, copy and table a part
 abbrev pub DeskLookup : Type 0
 DeskLookup = ℕ → Bool → RefT (List ℕ) → RefT (List ℕ) → List ℕ → RefT (List ℕ)
 
+pub record GivenRow (r : ℕ) (m c : RefT (List ℕ)) (t : List ℕ) : Type 0 where
+  pub row : ltb r rowBound ≡ true
+  pub octets : below octetBound (now m) ≡ true
+  pub copied : below octetBound (now c) ≡ true
+  pub numbers : below numberBound t ≡ true
+
 abbrev pub IsDesk : DeskLookup → Type 0
-IsDesk f = (r : ℕ) (right : Bool) (m c : RefT (List ℕ)) (table : List ℕ) → Desk r right m c table (f r right m c table)
+IsDesk f = (r : ℕ) (right : Bool) (m c : RefT (List ℕ)) (t : List ℕ) → GivenRow r m c t → Desk r right m c t (f r right m c t)
 
 -- the listings with no group's inside, and the same mandatory pairs at the message level
 unfoldable pub outerLine : Line → Line

@@ -22,9 +22,11 @@ use Rattle.rules.proofs.Checks.{first-append}
 use Rattle.rules.proofs.Walks.{Alike, cuts, wholes, alongside}
 use Rattle.rules.proofs.Rows.{rows-length}
 use Rattle.rules.proofs.Book.{book-sound}
-use Rattle.reading.specs.Gaps.{fault, packed, Gap, gapOne, gapShut, gapNumber, gapWalk}
-use Rattle.reading.specs.Held.{Held, held, one, shut, count, counted, shortOf, closed, putNumbers, putRow, number, scan}
-use Rattle.reading.specs.declared.Counts.{Counts}
+use Rattle.taking.specs.Lacks.{fault}
+use Rattle.reading.specs.Gaps.{packed, Gap, gapOne, gapShut, gapNumber, gapWalk}
+use Rattle.taking.specs.Held.{Held, held, one, count, counted, shortOf, closed, putNumbers, putRow}
+use Rattle.reading.specs.Scan.{shut, number, scan}
+use Rattle.taking.specs.declared.Counts.{Counts}
 use Rattle.reading.proofs.Gaps.{gap-is}
 
 -- ---- counts

@@ -22,8 +22,9 @@ use Rattle.rules.proofs.Header.{Passed, passed}
 use Rattle.rules.proofs.Rows.{Octets, octets-drop, all-fit, body-met, header-least}
 use Rattle.rules.proofs.Book.{book-sound}
 use Rattle.reading.specs.Gaps.{packed, unpacked}
-use Rattle.reading.specs.Held.{Held, held, noCounts, wholeReading, scan, Ran, Few}
-use Rattle.reading.specs.declared.Counts.{Counts}
+use Rattle.taking.specs.Held.{Held, held, noCounts, Few}
+use Rattle.reading.specs.Scan.{wholeReading, scan, Ran}
+use Rattle.taking.specs.declared.Counts.{Counts}
 use Rattle.reading.specs.declared.Walk.the-variants.{Cut, Whole}
 use Rattle.reading.proofs.Runs.{whole-is, cut-is}
 use Rattle.reading.proofs.Alongside.{Same, scan-cut, scan-whole}

@@ -21,7 +21,8 @@ use Rattle.rules.proofs.Checks.{first-append}
 use Rattle.rules.proofs.Rows.{Every}
 use Rattle.rules.proofs.Places.{Ranged, ranged}
 use Rattle.standings.specs.Faults.{lesser}
-use Rattle.reading.specs.Gaps.{fault, packed}
+use Rattle.taking.specs.Lacks.{fault}
+use Rattle.reading.specs.Gaps.{packed}
 use Rattle.reading.proofs.Lesser.{lesser-none, none-lesser, lesser-left}
 use Rattle.reading.proofs.Marks.{missing, EachMust, Must, must-line, checks-by}
 

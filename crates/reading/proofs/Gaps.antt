@@ -23,7 +23,8 @@ use Rattle.rules.proofs.Heads.{fits, value-length}
 use Rattle.rules.proofs.Mets.{made, made-number, met-walk, whole-met}
 use Rattle.rules.proofs.Standings.{marked-length}
 use Rattle.standings.specs.Faults.{lesser}
-use Rattle.reading.specs.Gaps.{packed, lackOf, Gap, gapOne, gapShut, gapNumber, gapWalk}
+use Rattle.taking.specs.Lacks.{lackOf}
+use Rattle.reading.specs.Gaps.{packed, Gap, gapOne, gapShut, gapNumber, gapWalk}
 use Rattle.reading.proofs.Lesser.{none-lesser, lesser-comm, lesser-assoc}
 use Rattle.reading.proofs.Marks.{lackWith, by-marks, by-rows, same-rows, with-mark}
 use Rattle.reading.proofs.Kept.{Local, local-tail, own-level, in-group, local-inside, local-after}

@@ -1,14 +1,8 @@
-pub mod Levels
-pub mod Keys
-pub mod Messages
-pub mod Heads
-pub mod Taking
 pub mod Lesser
 pub mod Marks
 pub mod Kept
 pub mod Firsts
 pub mod Gaps
-pub mod Lacking
 pub mod Runs
 pub mod Alongside
 pub mod Named

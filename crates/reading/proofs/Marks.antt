@@ -22,7 +22,8 @@ use Rattle.rules.specs.Sound.{sound}
 use Rattle.rules.specs.declared.Head.{Head}
 use Rattle.rules.proofs.Lines.{and-left, and-right, seek-lists, seek-own, lists-is, level-distinct, level-size, line-sound, sound-line}
 use Rattle.rules.proofs.Standings.{no-mark, marked-listed, marked-unlisted}
-use Rattle.reading.specs.Gaps.{fault, packed, lackBy, lackOf}
+use Rattle.taking.specs.Lacks.{fault, lackBy, lackOf}
+use Rattle.reading.specs.Gaps.{packed}
 
 -- ---- the first mandatory line that is not had, whatever having it means
 

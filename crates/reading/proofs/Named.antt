@@ -16,7 +16,8 @@ use Rattle.rules.specs.declared.Verdict.{Verdict}
 use Rattle.rules.specs.Sound.{sound}
 use Rattle.rules.proofs.Lines.{and-left, SoundLine, sound-line, line-sound}
 use Rattle.rules.proofs.Rows.{Every, Fits}
-use Rattle.reading.specs.Gaps.{fault, packed, unpacked}
+use Rattle.taking.specs.Lacks.{fault}
+use Rattle.reading.specs.Gaps.{packed, unpacked}
 
 -- acceptance, or that refusal with numbers that fit their parts
 pub data Named (n cause : ℕ) : Verdict → Type 0 where

@@ -14,13 +14,14 @@ use Rattle.rules.specs.declared.Head.{Head}
 use Rattle.rules.proofs.Walks.{walk-nil, walk-cut, walk-more}
 use Rattle.rules.proofs.Covers.{group-level}
 use Rattle.rules.proofs.Book.{book-sound}
-use Rattle.reading.specs.Gaps.{lackOf}
-use Rattle.reading.specs.Held.{Held, held, one, shut, closed, number, scan, scanIn, walkOf, heldOf, Few, Bounded, Ran, Took}
-use Rattle.reading.specs.declared.Counts.{Counts}
-use Rattle.reading.specs.declared.Taken.{Taken}
+use Rattle.taking.specs.Lacks.{lackOf}
+use Rattle.taking.specs.Held.{Held, held, one, closed, Few, Took}
+use Rattle.reading.specs.Scan.{shut, number, scan, scanIn, walkOf, heldOf, Bounded, Ran}
+use Rattle.taking.specs.declared.Counts.{Counts}
+use Rattle.taking.specs.declared.Taken.{Taken}
+use Rattle.listings.proofs.Levels.{depth}
 use Rattle.reading.specs.declared.Walk.{Walk}
 use Rattle.reading.specs.declared.Walk.the-variants.{Cut, Whole}
-use Rattle.reading.proofs.Levels.{depth}
 
 -- ---- an outcome that is known
 
@@ -72,9 +73,9 @@ some-group k zero at xs s h = absurd (omega arith)
 some-group k (suc g) at xs s h = refl
 
 -- the level of an inside is one of the listings
-pub inner-low : (k v : ℕ) (m : List ℕ) (h : Head) (x : ℕ) → x ≡ entered book k v m h → x < 16
-inner-low k v m h zero e = omega arith
-inner-low k v m h (suc g) e = omega (arith, depth, group-level book book-sound k v m h g (sym e))
+pub inner-low : (k v : ℕ) (m : List ℕ) (h : Head) (x : ℕ) → x ≡ entered book k v m h → x < length (book .levels)
+inner-low k v m h zero e = omega (arith, depth)
+inner-low k v m h (suc g) e = omega (arith, group-level book book-sound k v m h g (sym e))
 
 -- ---- one element
 

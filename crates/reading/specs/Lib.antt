@@ -1,4 +1,2 @@
-pub mod Data
-pub mod Header
 pub mod Gaps
-pub mod Held
+pub mod Scan

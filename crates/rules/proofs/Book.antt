@@ -1,4 +1,4 @@
--- The listings of document 01 pass the tests that the theorems ask for: by computation. Assumes nothing.
+-- The listings pass the tests that the theorems ask for: by computation. Assumes nothing.
 use mathlib.Core.Path.{_≡_, refl}
 use mathlib.Core.Bool.{Bool, true, false, cond, not, _&&_, Bool·beq}
 use mathlib.Core.List.{List, [], _∷_, map}

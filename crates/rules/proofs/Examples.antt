@@ -1,4 +1,4 @@
--- Every example of document 01 comes out as it is written there: by computation. Assumes nothing.
+-- Every example comes out as it is written: by computation. Assumes nothing.
 use mathlib.Core.Path.{_≡_, refl}
 use mathlib.Core.List.{map}
 use Rattle.rules.specs.Framing.{version, flagP, flagT, messageType, lengthField, headerLength, headOf}

@@ -17,7 +17,7 @@ use Rattle.rules.specs.Types.{among}
 use Rattle.rules.specs.Listings.{Book, Line, Message, listing, messageOf, isMessage}
 use Rattle.rules.specs.Standing.{Item}
 use Rattle.rules.specs.Taking.{Out, cut, whole, taken, bodyLevel}
-use Rattle.rules.specs.Verdicts.{accepted, refused, check, refuses, first, cutCheck, shortCheck, shortChecks, shortVerdict, levelChecks, insideChecks, groupChecks, lackChecks, lackVerdict, headerChecks, framingChecks, items, roomCheck, copyCheck, judgeChecks, maskChecks}
+use Rattle.rules.specs.Verdicts.{accepted, refused, check, refuses, first, cutCheck, shortCheck, shortChecks, shortVerdict, levelChecks, insideChecks, groupChecks, lackChecks, lackVerdict, headerChecks, framingChecks, items, roomCheck, copyCheck, judgeChecks, maskChecks, judgeNumbers, maskNumbers}
 use Rattle.rules.specs.declared.Verdict.{Verdict}
 use Rattle.rules.proofs.Lines.{beq-same}
 use Rattle.rules.proofs.Checks.{AllPass, all-pass, Numbered, OwnCase, in-its-case}
@@ -140,12 +140,6 @@ lacks-code : (b : Book) (k v : ℕ) (is : List Item) → AllCode 12 (lackChecks 
 unfolding lackChecks
 lacks-code b k v is =
     code-append 12 (levelChecks k is 0 0 (listing b v)) (groupChecks b k is 0 is) (level-code k is 0 0 (listing b v)) (groups-code b k is 0 is)
-
-abbrev pub judgeNumbers : List ℕ
-judgeNumbers = 1 ∷ 2 ∷ 3 ∷ 4 ∷ 5 ∷ 6 ∷ 7 ∷ 8 ∷ 9 ∷ 10 ∷ 11 ∷ 12 ∷ []
-
-abbrev pub maskNumbers : List ℕ
-maskNumbers = 1 ∷ 2 ∷ 3 ∷ 4 ∷ 5 ∷ 6 ∷ 7 ∷ 8 ∷ 9 ∷ 13 ∷ []
 
 module _ (b : Book) (k : ℕ) (m : List ℕ) (room : ℕ) where
   judge-numbered : Numbered 0 judgeNumbers (judgeChecks b k m room)

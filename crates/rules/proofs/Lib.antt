@@ -5,11 +5,11 @@ pub mod Checks
 pub mod Lines
 pub mod Standings
 pub mod Rows
+pub mod Walked
 pub mod Places
 pub mod Header
 pub mod Readings
-pub mod Repeats
-pub mod Earlier
+pub mod Pairs
 pub mod Covers
 pub mod Book
 pub mod Program

@@ -1,6 +1,7 @@
 -- Where the rows of a run stand: after the run's beginning and before its end, in the order of their places, and with parents of their own run. Assumes nothing.
---     ranged     the parents of a run's rows are the run's own parent or rows of the run before them
---     rising     rows stand in the order of their places
+--     all-ranged   the parents of a run's rows are the run's own parent or rows of the run before them; `ranged` of a whole run
+--     parents      they are not before the run's own
+--     rising       rows stand in the order of their places
 use mathlib.Core.Path.{_≡_, refl, _∙_}
 use mathlib.Core.List.{List, [], _∷_, _++_}
 use Prim.Native.Nat.{ℕ, zero, suc, _+_, _≤_, _<_}
@@ -11,9 +12,11 @@ use lib.Seq.{getD-append-add}
 use Rattle.rules.specs.Framing.{elementHeader}
 use Rattle.rules.specs.Listings.{Book}
 use Rattle.rules.specs.Standing.{Item, itemOf, valuePlace, valueEnd}
-use Rattle.rules.specs.Met.{Met, ends, alone, group}
+use Rattle.rules.specs.Met.{Met}
 use Rattle.rules.proofs.Heads.{fits, rest-length, value-length}
-use Rattle.rules.proofs.Rows.{Every, every-append, every-map, every-at, noItem, nth}
+use Rattle.rules.specs.Table.{noItem, nth}
+use Rattle.rules.proofs.Rows.{Every, every-append, every-map, every-at}
+use Rattle.rules.proofs.Walked.{Walked, ends, alone, group, met-walked}
 
 -- ---- each row and each later one
 
@@ -81,27 +84,35 @@ ranged-inside n at end top p at′ end′ top′ es a c d e h =
     every-map (Ranged (n + 1) (n + 1) at end top) (Ranged p n at′ end′ top′) es
     (λ j r. record { begins = omega (arith, r .begins); finishes = omega (arith, r .finishes); least = omega (arith, r .least); most = omega (arith, r .most); own = λ z. omega (arith, r .least) }) h
 
-pub ranged : {b : Book} {k v : ℕ} {m : List ℕ} {p n at : ℕ} {xs : List ℕ} {es : List Item} → Met b k v m p n at xs es → p ≤ n
+pub all-ranged : {b : Book} {k v : ℕ} {m : List ℕ} {p n at : ℕ} {xs : List ℕ} {es : List Item} → Walked b k v m p n at xs es → p ≤ n
     → Every (Ranged p n at (at + length xs) (n + length es)) es
 unfolding Every itemOf
-ranged ends l = tt
-ranged (alone {p = p} {n = n} {at = at} {xs = xs} {es = es} d a e t) l =
+all-ranged ends l = tt
+all-ranged (alone {p = p} {n = n} {at = at} {xs = xs} {es = es} d a e t) l =
     let f = fits a in let r = rest-length xs (d .len) f in (
       record { begins = omega arith; finishes = omega (arith, f); least = omega arith; most = omega arith; own = λ z. absurd (z refl) },
       ranged-more p (n + 1) (at + elementHeader + d .len) (at + elementHeader + d .len + length (drop (elementHeader + d .len) xs)) (n + 1 + length es) n at (at + length xs) (n + suc (length es)) es
-          (omega arith) (omega arith) (omega (arith, r)) (omega arith) (ranged t (omega arith)),
+          (omega arith) (omega arith) (omega (arith, r)) (omega arith) (all-ranged t (omega arith)),
     )
-ranged (group {p = p} {n = n} {at = at} {xs = xs} {is = is} {es = es} d g a e i t) l =
+all-ranged (group {p = p} {n = n} {at = at} {xs = xs} {is = is} {es = es} d g a e i t) l =
     let f = fits a in let r = rest-length xs (d .len) f in let q = value-length xs (d .len) f in
     let z = length-append is es in
     let top = n + suc (length (is ++ es)) in (
       record { begins = omega arith; finishes = omega (arith, f); least = omega arith; most = omega arith; own = λ z. absurd (z refl) },
       every-append (Ranged p n at (at + length xs) top) is es
           (ranged-inside n (at + elementHeader) (at + elementHeader + length (take (d .len) (drop elementHeader xs))) (n + 1 + length is) p at (at + length xs) top is
-          l (omega arith) (omega (arith, q, f)) (omega (arith, z)) (ranged i (omega arith)))
+          l (omega arith) (omega (arith, q, f)) (omega (arith, z)) (all-ranged i (omega arith)))
           (ranged-more p (n + 1 + length is) (at + elementHeader + d .len) (at + elementHeader + d .len + length (drop (elementHeader + d .len) xs)) (n + 1 + length is + length es) n at (at + length xs) top es
-          (omega arith) (omega arith) (omega (arith, r)) (omega (arith, z)) (ranged t (omega arith))),
+          (omega arith) (omega arith) (omega (arith, r)) (omega (arith, z)) (all-ranged t (omega arith))),
     )
+
+pub ranged : {b : Book} {k v : ℕ} {m : List ℕ} {p n at : ℕ} {xs : List ℕ} {es : List Item} → Met b k v m p n at xs es → p ≤ n
+    → Every (Ranged p n at (at + length xs) (n + length es)) es
+ranged d l = all-ranged (met-walked d) l
+
+pub parents : {b : Book} {k v : ℕ} {m : List ℕ} {p n at : ℕ} {xs : List ℕ} {es : List Item} → Walked b k v m p n at xs es → p ≤ n → Every (λ i. p ≤ i .parent) es
+parents {p = p} {n = n} {at = at} {xs = xs} {es = es} d l =
+    every-map (Ranged p n at (at + length xs) (n + length es)) (λ i. p ≤ i .parent) es (λ i r. r .least) (all-ranged d l)
 
 -- ---- octet order
 
@@ -111,7 +122,7 @@ Before i j = valuePlace i ≤ j .place
 
 -- the inside of a group, and what follows the group
 module _ {b : Book} {k v : ℕ} {m : List ℕ} {p n : ℕ} {is es : List Item} {g : ℕ} {m′ : List ℕ} {at₁ at₂ : ℕ} {ys zs : List ℕ}
-    (i : Met b k (suc g) m (n + 1) (n + 1) at₁ ys is) (t : Met b k v m′ p (n + 1 + length is) at₂ zs es) (le : p ≤ n) (past : at₁ + length ys ≤ at₂) where
+    (i : Walked b k (suc g) m (n + 1) (n + 1) at₁ ys is) (t : Walked b k v m′ p (n + 1 + length is) at₂ zs es) (le : p ≤ n) (past : at₁ + length ys ≤ at₂) where
   abbrev pub In : Item → Type 0
   In = Ranged (n + 1) (n + 1) at₁ (at₁ + length ys) (n + 1 + length is)
 
@@ -121,23 +132,23 @@ module _ {b : Book} {k v : ℕ} {m : List ℕ} {p n : ℕ} {is es : List Item} {
   pub inside-before : Every (λ x. Every (Before x) es) is
   inside-before =
       every-map In (λ x. Every (Before x) es) is
-      (λ x r. every-map Aft (Before x) es (λ y s. omega (arith, r .finishes, s .begins)) (ranged t (omega arith)))
-      (ranged i (omega arith))
+      (λ x r. every-map Aft (Before x) es (λ y s. omega (arith, r .finishes, s .begins)) (all-ranged t (omega arith)))
+      (all-ranged i (omega arith))
 
-pub rising : {b : Book} {k v : ℕ} {m : List ℕ} {p n at : ℕ} {xs : List ℕ} {es : List Item} → Met b k v m p n at xs es → p ≤ n → Pairwise Before es
+pub rising : {b : Book} {k v : ℕ} {m : List ℕ} {p n at : ℕ} {xs : List ℕ} {es : List Item} → Walked b k v m p n at xs es → p ≤ n → Pairwise Before es
 unfolding Pairwise itemOf
 rising ends l = tt
 rising {b} {k} (alone {v = v} {m = m} {p = p} {n = n} {at = at} {xs = xs} {es = es} d a e t) l = (
   every-map (Ranged p (n + 1) (at + elementHeader + d .len) (at + elementHeader + d .len + length (drop (elementHeader + d .len) xs)) (n + 1 + length es))
-      (Before (itemOf b k v m p at d)) es (λ j r. omega (arith, r .begins)) (ranged t (omega arith)),
+      (Before (itemOf b k v m p at d)) es (λ j r. omega (arith, r .begins)) (all-ranged t (omega arith)),
   rising t (omega arith),
 )
 rising {b} {k} (group {v = v} {m = m} {p = p} {n = n} {at = at} {xs = xs} {is = is} {es = es} d g a e i t) l =
     let q = value-length xs (d .len) (fits a) in (
       every-append (Before (itemOf b k v m p at d)) is es
           (every-map (Ranged (n + 1) (n + 1) (at + elementHeader) (at + elementHeader + length (take (d .len) (drop elementHeader xs))) (n + 1 + length is))
-          (Before (itemOf b k v m p at d)) is (λ j r. omega (arith, r .begins)) (ranged i (omega arith)))
+          (Before (itemOf b k v m p at d)) is (λ j r. omega (arith, r .begins)) (all-ranged i (omega arith)))
           (every-map (Ranged p (n + 1 + length is) (at + elementHeader + d .len) (at + elementHeader + d .len + length (drop (elementHeader + d .len) xs)) (n + 1 + length is + length es))
-          (Before (itemOf b k v m p at d)) es (λ j r. omega (arith, r .begins)) (ranged t (omega arith))),
+          (Before (itemOf b k v m p at d)) es (λ j r. omega (arith, r .begins)) (all-ranged t (omega arith))),
       pairwise-append Before is es (rising i (omega arith)) (rising t (omega arith)) (inside-before i t l (omega (arith, q))),
     )

@@ -18,7 +18,7 @@ use Rattle.rules.specs.Framing.{elementHeader, octet, headOf, headerLeng
 use Rattle.rules.specs.Listings.{Book}
 use Rattle.rules.specs.Standing.{Item, fresh, kept, itemOf, standing, marked, entered, valuePlace, valueEnd}
 use Rattle.rules.specs.Taking.{Out, cut, whole, taken, bodyLevel}
-use Rattle.rules.specs.Table.{row, rowsOf, keptRows}
+use Rattle.rules.specs.Table.{row, rowsOf, keptRows, noItem, nth}
 use Rattle.rules.specs.Met.{At, Met, ends, alone, group}
 use Rattle.rules.specs.declared.Head.{Head}
 use Rattle.rules.proofs.Heads.{head-is, fits, rest-length, value-length}
@@ -79,13 +79,6 @@ pub every-map : (P Q : Item → Type 0) (is : List Item) → ((i : Item) → P i
 unfolding Every
 every-map P Q [] f a = tt
 every-map P Q (i ∷ is) f a = (f i (a .0), every-map P Q is f (a .1))
-
-abbrev pub noItem : Item
-noItem = record { parent = 0; place = 0; typ = 0; inst = 0; len = 0; stand = 0; must = false; inside = 0 }
-
--- row number j, counted from 0
-abbrev pub nth : List Item → ℕ → Item
-nth is j = getD is j noItem
 
 pub every-at : (P : Item → Type 0) (is : List Item) → Every P is → (j : ℕ) → j < length is → P (nth is j)
 unfolding Every

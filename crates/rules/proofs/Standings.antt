@@ -1,6 +1,5 @@
 -- The standing of an element, case by case, and the marks after it. Assumes nothing.
 --     standing-case   why a standing is what it is
---     repeats         an element of a pair that has stood, and may not repeat, is a repeat
 --     own-mark        after an element of a listed pair its mark is not 0      marks-stay   and no mark goes back to 0
 use mathlib.Core.Path.{_≡_, refl, sym, ap, _∙_}
 use mathlib.Core.Logic.{_≢_}
@@ -60,10 +59,6 @@ module _ (b : Book) (k v : ℕ) (m : List ℕ) (h : Head) where
 
   pub stand-most : standing b k v m h ≤ 3
   stand-most = case-most (standing b k v m h) standing-case
-
-  pub repeats : isListed b k v h ≡ true → lineIn b k v h .many ≡ false → stoodEarlier b k v m h ≡ true → standing b k v m h ≡ repeated
-  unfolding standing
-  repeats a c d = rw (a, c, d)
 
   -- only what is kept is entered
   enter-case : (s : ℕ) (g : ℕ) → standing b k v m h ≡ s → (z : Bool) → eqb s kept ≡ z → (0 < cond z g 0) → s ≡ kept

@@ -75,7 +75,7 @@ Plain typ inst message table part = Stands message (plainSpan typ inst (length (
 abbrev pub PlainFound : ℕ → ℕ → List ℕ → List ℕ → Bool → Type 0
 PlainFound typ inst message table answer = answer ≡ plainSpan typ inst (length message) table .there
 
--- the part of the message for yes, or of the copy for no
+-- with the right a part of the message, without it one of the copy
 abbrev pub Desk : ℕ → Bool → RefT (List ℕ) → RefT (List ℕ) → List ℕ → RefT (List ℕ) → Type 0
 Desk row right message copy table part =
     Stands (cond right message copy) (deskSpan row (length (now message)) (length (now copy)) table) part

@@ -10,16 +10,16 @@ use Rattle.rules.specs.Standing.{Item, kept, unexpected, repeated, short
 use Rattle.rules.specs.Table.{laid}
 use Rattle.rules.specs.Verdicts.{first, refuses, framingChecks, items, maskVerdict}
 
--- ---- in document 01's words
+-- ---- octet by octet (rule 7.1)
 
 abbrev pub isValueOctet : Item → ℕ → Bool
 isValueOctet i j = leb (valuePlace i) j && ltb j (valueEnd i)
 
--- each value octet of a row of standing 1 or 2
+-- unexpected or repeated: the whole value
 abbrev pub isAside : ℕ → Bool
 isAside s = eqb s unexpected || eqb s repeated
 
--- and all but the first value octet of a row of type 79 of standing 0 or 3
+-- kept or short, of a type whose first octet bears on its length: what follows that octet
 abbrev pub coversButFirst : Item → ℕ → Bool
 coversButFirst i j = coversRest (i .typ) && (eqb (i .stand) kept || eqb (i .stand) short) && not (eqb j (valuePlace i))
 
@@ -31,7 +31,7 @@ unfoldable pub coveredIn : List Item → ℕ → Bool
 coveredIn [] j = false
 coveredIn (i ∷ is) j = coveredBy i j || coveredIn is j
 
--- Nothing else is covered, and nothing at all for a message refused by 1 to 9.
+-- of a message that 1 to 9 refuse, no octet is
 unfoldable pub covered : Book → ℕ → List ℕ → ℕ → Bool
 covered b k m j = not (refuses (first (framingChecks b k m))) && coveredIn (items b k m) j
 
@@ -57,6 +57,6 @@ clearAll xs (i ∷ is) = clearAll (cleared xs i) is
 unfoldable pub masked : Book → ℕ → List ℕ → List ℕ
 masked b k m = clearAll m (items b k m)
 
--- The masker writes nothing if a check applies; octets past the message's length stay.
+-- what a refusal leaves, and what lies beyond the message, is as it was lent (rule 6.4)
 unfoldable pub maskCopy : Book → ℕ → List ℕ → List ℕ → List ℕ
 maskCopy b k m copy = cond (refuses (maskVerdict b k m (length copy))) copy (laid (masked b k m) copy)

@@ -1,4 +1,4 @@
--- Checked examples A to M of document 01: what is asked, and what comes out as it is written there. Assumes nothing.
+-- The examples A to M: what is asked, and what has to come out. Assumes nothing.
 use Prim.Native.Nat.{ℕ}
 use mathlib.Core.Bool.{Bool, true, false, cond}
 use mathlib.Core.List.{List, [], _∷_, _++_}

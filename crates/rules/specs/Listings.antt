@@ -57,7 +57,7 @@ many l = record { typ = l .typ; inst = l .inst; must = l .must; many = true; kin
 abbrev pub only : List ℕ → Line → Line
 only ks l = record { typ = l .typ; inst = l .inst; must = l .must; many = l .many; kinds = ks; inside = l .inside }
 
--- Type 255 (Private Extension), any instance, may repeat in every message body, never in a group.
+-- a body's listing has the private extension at its end; a group's has not
 abbrev pub body : List Line → List Line
 body ls = ls ++ (many (pair 255 anyInstance) ∷ [])
 
@@ -223,7 +223,7 @@ levels =
     []) ∷
     []
 
--- Messages 1 and 2 have T = 0, all others T = 1.
+-- type, T, and the level of its body (rule 3.2)
 abbrev pub message : ℕ → Bool → ℕ → Message
 message t teid v = record { typ = t; teid = teid; body = v }
 
@@ -240,7 +240,7 @@ messages =
     message 97 true 14 ∷
     []
 
--- the listings of document 01
+-- these listings
 unfoldable pub book : Book
 book = record { kinds = allKinds; messages = messages; levels = levels }
 

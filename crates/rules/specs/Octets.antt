@@ -17,11 +17,11 @@ octetsOf (x ∷ xs) = x / 256 ∷ x % 256 ∷ octetsOf xs
 abbrev pub five : Verdict → List ℕ
 five v = v .code ∷ v .cause ∷ v .place ∷ v .typ ∷ v .inst ∷ []
 
--- A buffer for the five numbers under 10 octets is not written; octets past 10 stay.
+-- written where there is room for all ten octets, and over those alone (rule 9.3)
 unfoldable pub fiveLaid : Verdict → List ℕ → List ℕ
 fiveLaid v buffer = cond (ltb (length buffer) fiveOctets) buffer (laid (octetsOf (five v)) buffer)
 
--- A table's odd last octet is not used and stays.
+-- whole numbers only: an odd octet at the end is left alone (rule 9.2)
 abbrev pub tableRoom : List ℕ → ℕ
 tableRoom octets = length octets / 2
 

@@ -12,11 +12,11 @@ use Rattle.rules.specs.Table.{row, keptRows, laid}
 use Rattle.rules.specs.Verdicts.{items, refuses, judgeVerdict}
 use Rattle.rules.specs.Octets.{five}
 
--- First octet of standard input is the kind; no input reads as kind 0.
+-- the kind comes first, in one octet; without input it is 0 (rule 10.1)
 abbrev pub inputKind : List ℕ → ℕ
 inputKind input = getD input 0 0
 
--- The rest is the message: its first 4,097 octets count.
+-- then the message, of which one octet more is read than a message may have
 abbrev pub inputMessage : List ℕ → List ℕ
 inputMessage input = take (largestMessage + 1) (drop 1 input)
 
@@ -52,7 +52,7 @@ acceptWord = 97 ∷ 99 ∷ 99 ∷ 101 ∷ 112 ∷ 116 ∷ []
 abbrev pub refuseWord : List ℕ
 refuseWord = 114 ∷ 101 ∷ 102 ∷ 117 ∷ 115 ∷ 101 ∷ []
 
--- Its table has room for 1,022 rows. Output: `accept rows kept`, then one line a row; or `refuse` and the five numbers on one line.
+-- the counts and a line for each row where it is accepted, else the five numbers (rule 10.2)
 module _ (b : Book) (k : ℕ) (m : List ℕ) where
   unfoldable pub textOf : List ℕ
   textOf =

@@ -1,4 +1,4 @@
--- The sizes that document 01 names, each in one place. Assumes nothing.
+-- The sizes that the rules name, each in one place. Assumes nothing.
 use Prim.Native.Nat.{ℕ, _+_, _*_}
 
 -- a message has at most 4,096 octets

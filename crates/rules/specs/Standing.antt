@@ -50,7 +50,7 @@ module _ (b : Book) (k : ℕ) where
   abbrev pub isListed : ℕ → Head → Bool
   isListed v h = ltb (lineNumber v h) (length (listing b v))
 
-  -- the pair stood earlier at this level, short ones included
+  -- an element of the pair stood here before, however short (rule 4.2)
   abbrev pub stoodEarlier : ℕ → List ℕ → Head → Bool
   stoodEarlier v m h = not (eqb (getD m (lineNumber v h) 0) 0)
 

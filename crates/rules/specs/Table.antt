@@ -1,9 +1,9 @@
--- The table: lent 16-bit numbers, a header of counts and offsets and six numbers a row. Assumes nothing.
-use Prim.Native.Nat.{ℕ, suc, _+_, _/_}
+-- The table: a header of four numbers, then six an element (rules 5.1, 5.2). Assumes nothing.
+use Prim.Native.Nat.{ℕ, suc, _+_, _*_, _/_}
 use mathlib.Core.Bool.{Bool, true, false, cond}
 use mathlib.Core.List.{List, [], _∷_, _++_}
 use lib.Dec.{eqb}
-use lib.ListN.{length, take, drop}
+use lib.ListN.{length, take, drop, getD}
 use Rattle.rules.specs.Sizes.{headerNumbers, rowNumbers, used}
 use Rattle.rules.specs.Standing.{Item, kept, valuePlace}
 
@@ -26,6 +26,10 @@ header is = length is ∷ keptRows is ∷ headerNumbers ∷ used (length is) ∷
 unfoldable pub tableOf : List Item → List ℕ
 tableOf is = header is ++ rowsOf is
 
+-- a table's numbers by its counts, from rows that stand at the start of a run of numbers
+abbrev pub numbersBy : ℕ → ℕ → List ℕ → List ℕ
+numbersBy n kept rows = n ∷ kept ∷ headerNumbers ∷ used n ∷ take (rowNumbers * n) rows
+
 -- numbers laid over the start of what is lent: those past the ones used stay
 unfoldable pub laid : List ℕ → List ℕ → List ℕ
 laid xs lent = xs ++ drop (length xs) lent
@@ -33,3 +37,10 @@ laid xs lent = xs ++ drop (length xs) lent
 -- the rows of which a run of n numbers has room
 abbrev pub fitting : ℕ → List Item → List Item
 fitting n is = take (n / rowNumbers) is
+
+-- element number j of those taken, counted from 0; past their end an element of zeros
+abbrev pub noItem : Item
+noItem = record { parent = 0; place = 0; typ = 0; inst = 0; len = 0; stand = 0; must = false; inside = 0 }
+
+abbrev pub nth : List Item → ℕ → Item
+nth is j = getD is j noItem

@@ -1,4 +1,4 @@
--- Elements are taken in octet order, a kept group's inside before its next sibling. What is made of them is left open: `one s i` is s after
+-- Elements are taken from the first octet on, and an entered group's inside before what stands behind it (rule 2.4). What is made of them is left open: `one s i` is s after
 -- the element i, `shut s v m o` is s at the end of a level, and `number s` is the number of the row taken last. Assumes nothing.
 use Prim.Native.Nat.{ℕ, zero, suc, _+_}
 use mathlib.Core.Bool.{Bool, true, false, cond}

@@ -1,6 +1,6 @@
 -- What is said of an element by its type number alone, or with its first value octet: least value length, group, cover. Assumes nothing.
 --
--- The type numbers of document 01, with their names in TS 29.274 Table 8.1-1:
+-- The type numbers that the rules name, with their names in TS 29.274 Table 8.1-1:
 --       1 IMSI                    2 Cause                          3 Recovery
 --      71 APN                    72 AMBR                          73 EPS Bearer ID          75 MEI          76 MSISDN
 --      77 Indication             78 PCO                           79 PDN Address Allocation
@@ -24,11 +24,11 @@ among t (x ∷ xs) = eqb t x || among t xs
 
 -- ---- least value lengths
 
--- 87: 5, plus 4 if the first octet's top bit is set, plus 16 if the next bit is
+-- 87 grows with the two highest bits of its first octet: an IPv4 address takes 4, an IPv6 address 16 (rule 3.4)
 unfoldable pub leastOf87 : ℕ → ℕ
 leastOf87 f = 5 + cond (eqb (f / 128 % 2) 1) 4 0 + cond (eqb (f / 64 % 2) 1) 16 0
 
--- 79, by the first octet's low 3 bits: 1 gives 5, 2 gives 18, 3 gives 22, else 1
+-- 79 goes by the PDN type, its first octet modulo 8: 1 is IPv4, 2 is IPv6, 3 is both (rule 3.4)
 unfoldable pub leastOf79 : ℕ → ℕ
 leastOf79 f = cond (eqb (f % 8) 1) 5 (cond (eqb (f % 8) 2) 18 (cond (eqb (f % 8) 3) 22 1))
 

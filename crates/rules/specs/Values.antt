@@ -10,11 +10,11 @@ use Rattle.rules.specs.Sizes.{headerNumbers, rowNumbers, used}
 use Rattle.rules.specs.Standing.{kept}
 use Rattle.rules.specs.declared.Span.{Span}
 
--- the rows of a table: none if it has under 4 numbers or under 4 + 6 × its first
+-- how many rows a table has: none if it is shorter than it says (rule 8.1)
 unfoldable pub tableRows : List ℕ → ℕ
 tableRows t = cond (ltb (length t) headerNumbers || ltb (length t) (used (getD t 0 0))) 0 (getD t 0 0)
 
--- number j of a row; rows are read from number 4 on
+-- number j of a row; rows stand behind the header
 abbrev pub cell : List ℕ → ℕ → ℕ → ℕ
 cell t r j = getD t (used r + j) 0
 
@@ -39,19 +39,19 @@ rowStanding t r = cell t r 5
 abbrev pub nowhere : Span
 nowhere = record { start = 0; len = 0; there = false }
 
--- where the value of row r stands in a buffer of n octets; nowhere if no such row is there, or the part would not lie in the buffer
+-- where the value of row r stands in a buffer of n octets; nowhere if there is no such row, or its part would pass the buffer's end (rule 8.4)
 unfoldable pub rowSpan : List ℕ → ℕ → ℕ → Span
 rowSpan t r n =
     cond (ltb r (tableRows t) && leb (rowPlace t r + rowLength t r) n)
     (record { start = rowPlace t r; len = rowLength t r; there = true })
     nowhere
 
--- ---- the desk's lookup: a row number from 0; nowhere also if message and copy differ in length
+-- ---- the desk's lookup: by row number, and only where message and copy have one length (rule 8.2)
 
 unfoldable pub deskSpan : ℕ → ℕ → ℕ → List ℕ → Span
 deskSpan r message copy t = cond (eqb message copy) (rowSpan t r message) nowhere
 
--- ---- the plain lookup: the first kept row with parent 0 and that pair
+-- ---- the plain lookup: by pair, among the kept rows of the body (rule 8.3)
 
 unfoldable pub isPlain : List ℕ → ℕ → ℕ → ℕ → Bool
 isPlain t typ inst r =

@@ -1,4 +1,4 @@
--- Verdicts: the first check that applies, in document 01's order. Assumes nothing.
+-- Verdicts: the first check that is true, in the order of rule 6.2. Assumes nothing.
 use Prim.Native.Nat.{ℕ, suc, _+_, _%_}
 use mathlib.Core.Bool.{Bool, true, false, cond, not, _&&_, _||_, Bool·beq}
 use mathlib.Core.List.{List, [], _∷_, _++_}
@@ -13,7 +13,7 @@ use Rattle.rules.specs.Taking.{Out, cut, whole, taken, bodyLevel, itemsI
 use Rattle.rules.specs.Table.{tableOf, laid}
 use Rattle.rules.specs.declared.Verdict.{Verdict}
 
--- Acceptance is five zeros. Place, type and instance are 0 unless named.
+-- nothing is wrong, and nothing is named
 abbrev pub accepted : Verdict
 accepted = record { code = 0; cause = 0; place = 0; typ = 0; inst = 0 }
 
@@ -51,7 +51,7 @@ abbrev pub cutCheck : Out (List Item) → Verdict
 cutCheck (cut q is) = refusedAt 9 invalidLength q 0 0
 cutCheck (whole is) = accepted
 
--- ---- 11: a mandatory pair's element, not a repeat, is short
+-- ---- 11: an element of a mandatory line is short (a repeat has standing 2, and never is)
 
 abbrev pub shortCheck : Item → Verdict
 shortCheck i = check (i .must && eqb (i .stand) short) (refusedAt 11 invalidLength (i .place) (i .typ) (i .inst))
@@ -64,7 +64,7 @@ shortChecks (i ∷ is) = shortCheck i ∷ shortChecks is
 abbrev pub shortVerdict : List Item → Verdict
 shortVerdict is = first (shortChecks is)
 
--- ---- 12: a mandatory pair has no kept row at its level
+-- ---- 12: a mandatory line of which its level keeps no row
 
 -- i is a kept row of the pair t/j with the parent p
 abbrev pub isKept : ℕ → ℕ → ℕ → Item → Bool
@@ -101,19 +101,23 @@ lackChecks b k v is = levelChecks k is 0 0 (listing b v) ++ groupChecks b k is 0
 abbrev pub lackVerdict : Book → ℕ → ℕ → List Item → Verdict
 lackVerdict b k v is = first (lackChecks b k v is)
 
+-- checks 1 to 8 of a message of n octets that begins with `head`: none of them reads past octet 3
+abbrev pub openingChecks : Book → ℕ → List ℕ → ℕ → List Verdict
+openingChecks b k head n =
+    check (not (among k (b .kinds))) (refused 1 0)
+    ∷ check (eqb n 0 || ltb largestMessage n) (refused 2 0)
+    ∷ check (not (eqb (version head) 2)) (refused 3 0)
+    ∷ check (ltb n (headerLength head)) (refused 4 0)
+    ∷ check (flagP head) (refused 5 0)
+    ∷ check (not (eqb (lengthField head + 4) n)) (refused 6 invalidLength)
+    ∷ check (not (isMessage b (messageType head))) (refused 7 0)
+    ∷ check (not (Bool·beq (flagT head) (messageOf b (messageType head) .teid))) (refused 8 0)
+    ∷ []
+
 module _ (b : Book) (k : ℕ) (m : List ℕ) where
   -- checks 1 to 8
   unfoldable pub headerChecks : List Verdict
-  headerChecks =
-      check (not (among k (b .kinds))) (refused 1 0)
-      ∷ check (eqb (length m) 0 || ltb largestMessage (length m)) (refused 2 0)
-      ∷ check (not (eqb (version m) 2)) (refused 3 0)
-      ∷ check (ltb (length m) (headerLength m)) (refused 4 0)
-      ∷ check (flagP m) (refused 5 0)
-      ∷ check (not (eqb (lengthField m + 4) (length m))) (refused 6 invalidLength)
-      ∷ check (not (isMessage b (messageType m))) (refused 7 0)
-      ∷ check (not (Bool·beq (flagT m) (messageOf b (messageType m) .teid))) (refused 8 0)
-      ∷ []
+  headerChecks = openingChecks b k m (length m)
 
   -- checks 1 to 9
   unfoldable pub framingChecks : List Verdict
@@ -151,3 +155,10 @@ module _ (b : Book) (k : ℕ) (m : List ℕ) where
   -- the judge writes the table only on acceptance
   unfoldable pub judgeTable : List ℕ → List ℕ
   judgeTable table = cond (refuses (judgeVerdict (length table))) table (laid (tableOf items) table)
+
+-- the numbers that the judge gives, in the order of its checks, and those of the masker
+abbrev pub judgeNumbers : List ℕ
+judgeNumbers = 1 ∷ 2 ∷ 3 ∷ 4 ∷ 5 ∷ 6 ∷ 7 ∷ 8 ∷ 9 ∷ 10 ∷ 11 ∷ 12 ∷ []
+
+abbrev pub maskNumbers : List ℕ
+maskNumbers = 1 ∷ 2 ∷ 3 ∷ 4 ∷ 5 ∷ 6 ∷ 7 ∷ 8 ∷ 9 ∷ 13 ∷ []

@@ -1,4 +1,4 @@
-// The answers that document 01 names, and what is read off one element's header. This crate has no function: the rules are
+// The answers that the rules name, and what is read off one element's header. This crate has no function: the rules are
 // definitions in specs/, and the laws about them are in proofs/.
 
 // A verdict is five numbers; acceptance is five zeros.

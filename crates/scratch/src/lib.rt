@@ -3,17 +3,18 @@ ghost use mathlib.Core.Path.{_≡_};
 ghost use Prim.Native.Nat.{_+_, _<_};
 ghost use lib.ListN.{length};
 ghost use Rattle.scratch.specs.Guessing.{Start, Two, crowded};
+ghost use Rattle.scratch.specs.Zeros.{Zeros};
 
 // A scratch for 64 rows, which most messages do not fill, and one for the rows of any message. The language sets them to 0, which is what
 // the small one saves.
 pub fn small() -> [u16; 384]
-    ensures { λ r. ⌜ 384 ≡ length r ⌝ }
+    ensures { λ r. ⌜ Zeros 384 r ⌝ }
 {
     [0u16; 384]
 }
 
 pub fn large() -> [u16; 6132]
-    ensures { λ r. ⌜ 6132 ≡ length r ⌝ }
+    ensures { λ r. ⌜ Zeros 6132 r ⌝ }
 {
     [0u16; 6132]
 }

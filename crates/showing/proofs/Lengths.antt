@@ -12,45 +12,25 @@ use Rattle.rules.specs.Sizes.{mostRows, used}
 use Rattle.rules.specs.Listings.{book}
 use Rattle.rules.specs.Verdicts.{refuses, judgeVerdict, maskVerdict, judgeTable}
 use Rattle.rules.specs.Covered.{maskCopy}
-use Rattle.rules.specs.Values.{tableRows, rowParent, rowType, rowInstance, rowPlace, rowLength, rowStanding}
+use Rattle.rules.specs.Values.{tableRows, rowParent, rowType, rowStanding}
+use Rattle.rules.specs.Octets.{five}
 use Rattle.rules.specs.Program.{decimal}
 use Rattle.rules.specs.declared.Verdict.{Verdict}
 use Rattle.rules.proofs.Book.{book-sound}
 use Rattle.promises.proofs.Left.{table-length-stays}
 use Rattle.promises.proofs.Copies.{copy-length}
-use Rattle.wording.specs.Pieces.{leftIn, rightIn, hex, hexes}
+use Rattle.wording.specs.Pieces.{rightIn, hex, hexes}
 use Rattle.wording.proofs.Decimals.{decimal-length}
-use Rattle.wording.proofs.Turns.{turns-length, left-length, right-length, hex-length, hexes-length}
+use Rattle.wording.proofs.Turns.{turns-length, right-length, hex-length, hexes-length}
 use Rattle.phrases.specs.Words.{words}
-use Rattle.phrases.specs.Names.{kindName, messageName, standingName, elementName}
-use Rattle.phrases.specs.Refusals.{refusal}
-use Rattle.phrases.proofs.Lengths.{kind-length, message-length, standing-length, element-length, refusal-length}
-use Rattle.showing.specs.Rows.{namedIn, element, valueText, entered, ending, rowNumbers, valueOf, rowLine, countText, heading, rowLines}
-use Rattle.showing.specs.Showing.{onKind, title, lineBreak, lead, dumpLines, unread, lacking, accepted, seenBy, readPage, page, pageOn, tableRoom, copyRoom, shownText}
+use Rattle.phrases.specs.Table.{rows, endings}
+use Rattle.phrases.specs.Sentences.{said, refusal}
+use Rattle.phrases.proofs.Lengths.{page-length, refusal-length, row-length, ending-length}
+use Rattle.showing.specs.Rows.{valueText, entered, ending, rowRun, valueOf, rowLine, heading, rowLines}
+use Rattle.showing.specs.Showing.{kindNumber, pageLine, title, lineBreak, lead, dumpLines, unread, lacking, accepted, seenBy, readPage, page, pageOn, tableRoom, copyRoom, shownText}
 use Rattle.showing.proofs.Tables.{at-most-1022}
 
 -- ---- a row
-
-number-length : (width n : ℕ) → length (rightIn width (decimal n)) ≤ length (decimal n) + (width - length (decimal n))
-number-length width n = right-length width (decimal n)
-
-named-length : (names : List ℕ) (w v t : ℕ) → length (namedIn names w v t) ≤ length (decimal t) + (w - length (decimal t)) + 1 + (length (elementName names t) + (v - length (elementName names t)))
-unfolding namedIn
-named-length names w v t =
-    omega (
-      arith,
-      number-length w t,
-      left-length v (elementName names t),
-      length-append (rightIn w (decimal t)) (32 ∷ leftIn v (elementName names t)),
-    )
-
-element-length-in : (names : List ℕ) (parent t : ℕ) → length (element names parent t) ≤ 39
-unfolding element
-element-length-in names parent t = go (eqb parent 0)
-  where
-    go : (c : Bool) → length (cond c (namedIn names 4 33 t) (namedIn names 6 31 t)) ≤ 39
-    go true = omega (arith, named-length names 4 33 t, decimal-length t, element-length names t)
-    go false = omega (arith, named-length names 6 31 t, decimal-length t, element-length names t)
 
 value-length : (part : List ℕ) → length (valueText part) ≤ 66
 unfolding valueText
@@ -60,52 +40,27 @@ value-length part = go (ltb 32 (length part)) refl
     go true e = omega (arith, length-append (hexes (take 32 part)) (words ".."), hexes-length (take 32 part), length-take 32 part)
     go false e = omega (arith, hexes-length part, ltb-false 32 (length part) e)
 
-ending-length : (t s : ℕ) (part : List ℕ) → length (ending t s part) ≤ 77
-unfolding ending
-ending-length t s part = go (entered t s || eqb (length part) 0)
-  where
-    go : (c : Bool) → length (cond c (leftIn 0 (standingName s)) (leftIn 11 (standingName s) ++ valueText part)) ≤ 77
-    go true = omega (arith, left-length 0 (standingName s), standing-length s)
-    go false = omega (arith, left-length 11 (standingName s), standing-length s, value-length part, length-append (leftIn 11 (standingName s)) (valueText part))
+module _ (names : List ℕ) where
+  end-length : (run : List ℕ) (t s : ℕ) (part : List ℕ) → length (ending names run t s part) ≤ 77
+  unfolding ending
+  end-length run t s part = go (entered t s || eqb (length part) 0)
+    where
+      go : (c : Bool) → length (cond c (said names run endings 0) (said names run endings 1 ++ valueText part)) ≤ 77
+      go true = omega (arith, ending-length names run 0)
+      go false = omega (arith, ending-length names run 1, value-length part, length-append (said names run endings 1) (valueText part))
 
 module _ (names table : List ℕ) where
-  numbers-length : (r : ℕ) → length (rowNumbers names table r) ≤ 68
-  unfolding rowNumbers
-  numbers-length r =
-      let last = rightIn 5 (decimal (rowLength table r)) ++ (32 ∷ []) in
-      let place = rightIn 6 (decimal (rowPlace table r)) ++ last in
-      let inst = rightIn 4 (decimal (rowInstance table r)) ++ place in
-      let named = element names (rowParent table r) (rowType table r) ++ inst in
-      omega (
-        arith,
-        length-append (rightIn 4 (decimal (r + 1))) (rightIn 7 (decimal (rowParent table r)) ++ named),
-        length-append (rightIn 7 (decimal (rowParent table r))) named,
-        length-append (element names (rowParent table r) (rowType table r)) inst,
-        length-append (rightIn 4 (decimal (rowInstance table r))) place,
-        length-append (rightIn 6 (decimal (rowPlace table r))) last,
-        length-append (rightIn 5 (decimal (rowLength table r))) (32 ∷ []),
-        number-length 4 (r + 1),
-        number-length 7 (rowParent table r),
-        element-length-in names (rowParent table r) (rowType table r),
-        number-length 4 (rowInstance table r),
-        number-length 6 (rowPlace table r),
-        number-length 5 (rowLength table r),
-        decimal-length (r + 1),
-        decimal-length (rowParent table r),
-        decimal-length (rowInstance table r),
-        decimal-length (rowPlace table r),
-        decimal-length (rowLength table r),
-      )
-
   line-length : (size copySize : ℕ) (seen : List ℕ) (r : ℕ) → length (rowLine names table size copySize seen r) ≤ 146
   unfolding rowLine
   line-length size copySize seen r =
-      let end = ending (rowType table r) (rowStanding table r) (valueOf table size copySize seen r) in
+      let run = rowRun table r in
+      let numbers = said names run rows (rowParent table r) in
+      let end = ending names run (rowType table r) (rowStanding table r) (valueOf table size copySize seen r) in
       omega (
         arith,
-        numbers-length r,
-        ending-length (rowType table r) (rowStanding table r) (valueOf table size copySize seen r),
-        length-append (rowNumbers names table r) (end ++ (10 ∷ [])),
+        row-length names run (rowParent table r),
+        end-length names run (rowType table r) (rowStanding table r) (valueOf table size copySize seen r),
+        length-append numbers (end ++ (10 ∷ [])),
         length-append end (10 ∷ []),
       )
 
@@ -116,49 +71,17 @@ module _ (names table : List ℕ) where
 
 -- ---- a page
 
-kind-line-length : (k size : ℕ) → length (onKind k size) ≤ 40
-unfolding onKind
-kind-line-length k size =
-    omega (
-      arith,
-      kind-length k,
-      decimal-length size,
-      length-append (kindName k) (44 ∷ 32 ∷ (decimal size ++ words " octets\n")),
-      length-append (decimal size) (words " octets\n"),
-    )
+line-at-most : (names : List ℕ) (l k size t : ℕ) → length (pageLine names l k size t) ≤ 200
+unfolding pageLine
+line-at-most names l k size t = page-length names (kindNumber k ∷ size ∷ t ∷ []) l
 
-title-length : (k : ℕ) (copy : List ℕ) → length (title k copy) ≤ 90
+title-length : (names : List ℕ) (k : ℕ) (copy : List ℕ) → length (title names k copy) ≤ 200
 unfolding title
-title-length k copy =
-    let t = getD copy 1 0 in
-    omega (
-      arith,
-      message-length t,
-      decimal-length t,
-      kind-line-length k (length copy),
-      length-append (messageName t) (32 ∷ 40 ∷ (decimal t ++ (41 ∷ onKind k (length copy)))),
-      length-append (decimal t) (41 ∷ onKind k (length copy)),
-    )
+title-length names k copy = line-at-most names 1 k (length copy) (getD copy 1 0)
 
-count-length : (rows : ℕ) → length (countText rows) ≤ 12
-unfolding countText
-count-length rows = go (eqb rows 1)
-  where
-    go : (c : Bool) → length (decimal rows ++ cond c (words " row, ") (words " rows, ")) ≤ 12
-    go true = omega (arith, length-append (decimal rows) (words " row, "), decimal-length rows)
-    go false = omega (arith, length-append (decimal rows) (words " rows, "), decimal-length rows)
-
-heading-length : (table : List ℕ) → length (heading table) ≤ 120
+heading-length : (names table : List ℕ) → length (heading names table) ≤ 200
 unfolding heading
-heading-length table =
-    let heads = words " kept\n row parent element                              inst place  len standing\n" in
-    omega (
-      arith,
-      count-length (getD table 0 0),
-      decimal-length (getD table 1 0),
-      length-append (countText (getD table 0 0)) (decimal (getD table 1 0) ++ heads),
-      length-append (decimal (getD table 1 0)) heads,
-    )
+heading-length names table = page-length names (getD table 0 0 ∷ getD table 1 0 ∷ []) 2
 
 lead-length : (i : ℕ) → length (lead i) ≤ 8
 unfolding lead lineBreak
@@ -168,8 +91,8 @@ lead-length i = go (eqb (i % 16) 0) (eqb i 0)
     place = rightIn 4 (decimal i) ++ words "  "
 
     go : (c d : Bool) → length (cond c (cond d [] (10 ∷ []) ++ place) (32 ∷ [])) ≤ 8
-    go true true = omega (arith, length-append (rightIn 4 (decimal i)) (words "  "), number-length 4 i, decimal-length i)
-    go true false = omega (arith, length-append (rightIn 4 (decimal i)) (words "  "), number-length 4 i, decimal-length i)
+    go true true = omega (arith, length-append (rightIn 4 (decimal i)) (words "  "), right-length 4 (decimal i), decimal-length i)
+    go true false = omega (arith, length-append (rightIn 4 (decimal i)) (words "  "), right-length 4 (decimal i), decimal-length i)
     go false d = omega arith
 
 dump-length : (part : List ℕ) → length (dumpLines part) ≤ 10 * length part
@@ -181,7 +104,7 @@ dump-length part = turns-length (λ i. lead i ++ hex (getD part i 0)) 10 one 0 (
 
 unread-length : (names : List ℕ) (k size : ℕ) (v : Verdict) → length (unread names k size v) ≤ 163840
 unfolding unread
-unread-length names k size v = omega (arith, length-append (onKind k size) (refusal names v), kind-line-length k size, refusal-length names v)
+unread-length names k size v = omega (arith, length-append (pageLine names 0 k size 0) (refusal names v), line-at-most names 0 k size 0, refusal-length names (five v) (v .code))
 
 lacking-length : (names : List ℕ) (k : ℕ) (v : Verdict) (copy seen : List ℕ) → length seen ≤ 4097 → length (lacking names k v copy seen) ≤ 163840
 unfolding lacking
@@ -189,10 +112,10 @@ lacking-length names k v copy seen l =
     let dumped = dumpLines seen ++ (10 ∷ []) in
     omega (
       arith,
-      title-length k copy,
-      refusal-length names v,
+      title-length names k copy,
+      refusal-length names (five v) (v .code),
       dump-length seen,
-      length-append (title k copy) (refusal names v ++ dumped),
+      length-append (title names k copy) (refusal names v ++ dumped),
       length-append (refusal names v) dumped,
       length-append (dumpLines seen) (10 ∷ []),
     )
@@ -203,11 +126,11 @@ unfolding accepted
 accepted-length names k table size copy seen n =
     omega (
       arith,
-      title-length k copy,
-      heading-length table,
+      title-length names k copy,
+      heading-length names table,
       lines-length names table size (length copy) seen n,
-      length-append (title k copy) (heading table ++ rowLines names table size (length copy) seen),
-      length-append (heading table) (rowLines names table size (length copy) seen),
+      length-append (title names k copy) (heading names table ++ rowLines names table size (length copy) seen),
+      length-append (heading names table) (rowLines names table size (length copy) seen),
     )
 
 -- ---- a message, and an input
@@ -229,9 +152,9 @@ module _ (names : List ℕ) (k : ℕ) (right : Bool) (m : List ℕ) (l : length 
   table-size : length (judgeTable book k m tableRoom) ≡ 6136
   table-size = table-length-stays book k m tableRoom ∙ length-replicate {A = ℕ} 6136 0
 
-  page-length : length (pageOn names k right m) ≤ 163840
+  whole-length : length (pageOn names k right m) ≤ 163840
   unfolding pageOn page
-  page-length = go (refuses (maskVerdict book k m (length m))) refl
+  whole-length = go (refuses (maskVerdict book k m (length m))) refl
     where
       copy : List ℕ
       copy = maskCopy book k m (copyRoom m)
@@ -256,4 +179,4 @@ shown-length names input = go (ltb (length input) 2)
 
     go : (c : Bool) → length (cond c (words "no kind and mode\n") (pageOn names (getD input 0 0) (eqb (getD input 1 0) 1) message)) ≤ 163840
     go true = omega arith
-    go false = page-length names (getD input 0 0) (eqb (getD input 1 0) 1) message (omega (arith, length-take 4097 (drop 2 input)))
+    go false = whole-length names (getD input 0 0) (eqb (getD input 1 0) 1) message (omega (arith, length-take 4097 (drop 2 input)))

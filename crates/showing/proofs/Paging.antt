@@ -16,7 +16,7 @@ use Rattle.rules.specs.Answers.{Judged, Masked}
 use Rattle.rules.specs.declared.Verdict.{Verdict}
 use Rattle.rules.proofs.Book.{book-sound}
 use Rattle.promises.proofs.Copies.{copy-length}
-use Rattle.judging.proofs.Deciding.{refusing, accepting}
+use Rattle.answers.proofs.Refusing.{refusing, accepting}
 use Rattle.wording.specs.Puts.{Puts}
 use Rattle.wording.proofs.Puts.{puts-start, puts-same}
 use Rattle.phrases.specs.Words.{words}

@@ -1,26 +1,25 @@
--- What is read of a table: its numbers, how many rows it has, its groups, and the value of a row. Assumes nothing.
-use mathlib.Core.Path.{_≡_, refl, sym, ap, _∙_}
+-- What is read of a table: how many rows it has, its groups, and the line of a row. Assumes nothing.
+use mathlib.Core.Path.{_≡_, refl, ap, _∙_}
 use mathlib.Core.Bool.{Bool, true, false, cond, _&&_, _||_}
 use mathlib.Core.List.{List, [], _∷_}
 use Prim.Native.Nat.{ℕ, _≤_, _<_}
 use native.Mathlib.Omega.{arith}
 use borrow.Author.Tests.{ne-eqb, ltb-true, ltb-false}
 use lib.Dec.{ltb}
-use lib.ListN.{length, take, drop, getD, List·getD-eq-default}
+use lib.ListN.{length, take, drop, getD}
 use denote.Ref.{RefT, now}
 use Rattle.rules.specs.Types.{among, groups, isGroup}
 use Rattle.rules.specs.Sizes.{headerNumbers, used}
-use Rattle.rules.specs.Values.{tableRows, rowType, rowStanding, deskSpan}
+use Rattle.rules.specs.Values.{tableRows, deskSpan}
 use Rattle.rules.specs.Answers.{Desk}
 use Rattle.rules.proofs.Lines.{and-left, and-right}
 use Rattle.wording.specs.Puts.{Puts}
 use Rattle.wording.proofs.Puts.{then-puts}
 use Rattle.wording.proofs.Turns.{Turning}
 use Rattle.phrases.specs.Words.{newline}
-use Rattle.showing.specs.Rows.{ending, rowNumbers, rowLine, valueOf}
-
-pub past-end : (t : List ℕ) (at : ℕ) → length t ≤ at → 0 ≡ getD t at 0
-past-end t at l = sym (List·getD-eq-default t 0 l)
+use Rattle.phrases.specs.Table.{rows}
+use Rattle.phrases.specs.Sentences.{said}
+use Rattle.showing.specs.Rows.{ending, rowRun, rowLine, valueOf}
 
 -- ---- groups are numbers under 256
 
@@ -37,7 +36,7 @@ none-among t (x ∷ xs) e l =
 
 pub no-group : (t : ℕ) → 255 < t → isGroup t ≡ false
 unfolding isGroup groups allBelow
-no-group t l = none-among t (93 ∷ 180 ∷ []) refl l
+no-group t l = none-among t groups refl l
 
 -- ---- rows
 
@@ -62,11 +61,11 @@ module _ (names table : List ℕ) (row : ℕ) (right : Bool) (m c part : RefT (L
       d .octets
       ∙ ap (λ l. take (deskSpan row (length (now m)) (length (now c)) table .len) (drop (deskSpan row (length (now m)) (length (now c)) table .start) l)) (seen-is right m c)
 
-  pub line-put : {typ stand at₀ at₁ at₂ at₃ : ℕ} {out₀ out₁ out₂ out₃ : List ℕ} → typ ≡ rowType table row → stand ≡ rowStanding table row
-      → Puts (rowNumbers names table row) at₀ out₀ at₁ out₁ → Puts (ending typ stand (now part)) at₁ out₁ at₂ out₂ → Puts newline at₂ out₂ at₃ out₃
-      → Puts (rowLine names table (length (now m)) (length (now c)) (cond right (now m) (now c)) row) at₀ out₀ at₃ out₃
+  pub line-put : {run : List ℕ} {at₀ at₁ at₂ at₃ : ℕ} {out₀ out₁ out₂ out₃ : List ℕ} → run ≡ rowRun table row
+      → Puts (said names run rows (getD run 1 0)) at₀ out₀ at₁ out₁ → Puts (ending names run (getD run 2 0) (getD run 6 0) (now part)) at₁ out₁ at₂ out₂
+      → Puts newline at₂ out₂ at₃ out₃ → Puts (rowLine names table (length (now m)) (length (now c)) (cond right (now m) (now c)) row) at₀ out₀ at₃ out₃
   unfolding rowLine
-  line-put t s p e n = rw (← t, ← s, ← part-is) (then-puts p (then-puts e n))
+  line-put e p f n = rw (← part-is) (then-puts (rw e at p) (then-puts (rw e at f) n))
 
 -- the loop over the rows
 pub record Rowing (names table : List ℕ) (size copySize : ℕ) (seen : List ℕ) (count at₀ : ℕ) (out₀ : List ℕ) (to : ℕ) (out : List ℕ) (n : ℕ) : Type 0 where

@@ -14,19 +14,23 @@ use Rattle.rules.specs.Program.{decimal}
 use Rattle.rules.specs.declared.Verdict.{Verdict}
 use Rattle.wording.specs.Pieces.{forEach, rightIn, hex}
 use Rattle.phrases.specs.Words.{words, blank, newline}
-use Rattle.phrases.specs.Names.{kindName, messageName}
-use Rattle.phrases.specs.Refusals.{refusal}
+use Rattle.phrases.specs.Table.{pages}
+use Rattle.phrases.specs.Sentences.{said, refusal}
 use Rattle.showing.specs.Rows.{heading, rowLines}
 
 -- ---- the pieces of a page
 
-unfoldable pub onKind : ℕ → ℕ → List ℕ
-onKind k size = words " on " ++ (kindName k ++ (words ", " ++ (decimal size ++ words " octets\n")))
+-- a kind as a number of 16 bits: what is more is no kind either
+unfoldable pub kindNumber : ℕ → ℕ
+kindNumber k = cond (ltb k 65536) k 65535
 
--- the message's type is read from the copy; 41 is `)`
-unfoldable pub title : ℕ → List ℕ → List ℕ
-title k copy =
-    messageName (getD copy 1 0) ++ (words " (" ++ (decimal (getD copy 1 0) ++ (41 ∷ onKind k (length copy))))
+-- a page's line of kind, size and message type
+unfoldable pub pageLine : List ℕ → ℕ → ℕ → ℕ → ℕ → List ℕ
+pageLine names line k size t = said names (kindNumber k ∷ size ∷ t ∷ []) pages line
+
+-- the message's type is read from the copy
+unfoldable pub title : List ℕ → ℕ → List ℕ → List ℕ
+title names k copy = pageLine names 1 k (length copy) (getD copy 1 0)
 
 -- the first line of a dump has none before it
 unfoldable pub lineBreak : ℕ → List ℕ
@@ -42,15 +46,15 @@ dumpLines part = forEach (λ i. lead i ++ hex (getD part i 0)) 0 (length part)
 
 -- a message that could not be read through: nothing of it is shown
 unfoldable pub unread : List ℕ → ℕ → ℕ → Verdict → List ℕ
-unread names k size v = words "Message" ++ (onKind k size ++ refusal names v)
+unread names k size v = pageLine names 0 k size 0 ++ refusal names v
 
 -- a message that was read, and lacks what it must have
 unfoldable pub lacking : List ℕ → ℕ → Verdict → List ℕ → List ℕ → List ℕ
-lacking names k v copy seen = title k copy ++ (refusal names v ++ (dumpLines seen ++ newline))
+lacking names k v copy seen = title names k copy ++ (refusal names v ++ (dumpLines seen ++ newline))
 
 -- an accepted message
 unfoldable pub accepted : List ℕ → ℕ → List ℕ → ℕ → List ℕ → List ℕ → List ℕ
-accepted names k table size copy seen = title k copy ++ (heading table ++ rowLines names table size (length copy) seen)
+accepted names k table size copy seen = title names k copy ++ (heading names table ++ rowLines names table size (length copy) seen)
 
 -- ---- the page on a message
 

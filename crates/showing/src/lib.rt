@@ -7,7 +7,6 @@ ghost use Rattle.rules.specs.Listings.{book};
 ghost use Rattle.rules.specs.Verdicts.{judgeVerdict, judgeTable};
 ghost use Rattle.wording.specs.Puts.{Puts};
 ghost use Rattle.showing.specs.Showing.{readPage, pageOn, tableRoom, copyRoom, Shown};
-use rules::Verdict;
 
 mod pages;
 mod rows;
@@ -89,7 +88,7 @@ fn page_by(
     copied_page(names, kind, right, message, &mut room[..size], out)
 }
 
-fn page(names: &[u8], kind: u32, right: bool, message: &[u8], out: &mut [u8]) -> usize
+pub fn page(names: &[u8], kind: u32, right: bool, message: &[u8], out: &mut [u8]) -> usize
     requires { ⌜ length (now message) ≤ 4097 ⌝ }
     ensures { λ r. ⌜ Puts (pageOn (now (names .entry)) kind right (now (message .entry))) 0 (now (out .entry)) r (now (out .exit)) ⌝ }
 {

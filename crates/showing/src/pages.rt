@@ -2,46 +2,54 @@
 ghost use mathlib.Core.Path.{_≡_};
 ghost use mathlib.Core.List.{_++_};
 ghost use Prim.Native.Nat.{_≤_, _<_};
-ghost use lib.ListN.{length, getD};
+ghost use lib.ListN.{length};
 ghost use Rattle.wording.specs.Puts.{Puts};
 ghost use Rattle.wording.specs.Pieces.{hex};
-ghost use Rattle.showing.specs.Showing.{onKind, title, lineBreak, lead, dumpLines, unread, lacking, accepted, seenBy};
+ghost use Rattle.showing.specs.Showing.{kindNumber, pageLine, title, lineBreak, lead, dumpLines, unread, lacking, accepted, seenBy};
 use crate::rows;
-use phrases::names;
-use phrases::refusals::refusal;
+use phrases::PAGES;
+use phrases::runs::octet_at;
+use phrases::sentences::refusal;
+use phrases::sentences::say;
 use rules::Verdict;
 
-fn on_kind(kind: u32, size: u16, at: usize, out: &mut [u8]) -> usize
-    ensures { λ r. ⌜ Puts (onKind kind size) at (now (out .entry)) r (now (out .exit)) ⌝ }
+// A kind as a number of 16 bits: what is more is no kind either.
+fn kind_number(kind: u32) -> u16
+    ensures { λ r. ⌜ r ≡ kindNumber kind ⌝ }
 {
-    let at1 = wording::copy(b" on ", at, out);
-    let at2 = names::kind(kind, at1, out);
-    let at3 = wording::copy(b", ", at2, out);
-    let at4 = wording::number(size, at3, out);
-    wording::copy(b" octets\n", at4, out)
-}
-
-// The message's type, from the copy.
-fn message_type(copy: &[u8]) -> u8
-    ensures { λ r. ⌜ r ≡ getD (now (copy .entry)) 1 0 ⌝ }
-{
-    if 1 < copy.len() {
-        return copy[1];
+    if kind < 65536 {
+        return kind as u16;
     }
-    0
+    65535
 }
 
-fn title(kind: u32, copy: &[u8], at: usize, out: &mut [u8]) -> usize
-    requires { ⌜ length (now copy) ≤ 4097 ⌝ }
-    ensures { λ r. ⌜ Puts (title kind (now (copy .entry))) at (now (out .entry)) r (now (out .exit)) ⌝ }
+fn line(names: &[u8], line: u16, kind: u32, size: u16, typ: u8, at: usize, out: &mut [u8]) -> usize
+    ensures { λ r. ⌜ Puts (pageLine (now (names .entry)) line kind size typ) at (now (out .entry)) r (now (out .exit)) ⌝ }
 {
-    let typ = message_type(copy);
-    let size = copy.len() as u16;
-    let at1 = names::message(typ, at, out);
-    let at2 = wording::copy(b" (", at1, out);
-    let at3 = wording::number(typ as u16, at2, out);
-    let at4 = wording::put(41, at3, out);
-    on_kind(kind, size, at4, out)
+    say(
+        PAGES,
+        line,
+        names,
+        &[kind_number(kind), size, typ as u16],
+        at,
+        out,
+    )
+}
+
+// The message's type is read from the copy.
+fn title(names: &[u8], kind: u32, copy: &[u8], at: usize, out: &mut [u8]) -> usize
+    requires { ⌜ length (now copy) ≤ 4097 ⌝ }
+    ensures { λ r. ⌜ Puts (title (now (names .entry)) kind (now (copy .entry))) at (now (out .entry)) r (now (out .exit)) ⌝ }
+{
+    line(
+        names,
+        1,
+        kind,
+        copy.len() as u16,
+        octet_at(copy, 1),
+        at,
+        out,
+    )
 }
 
 fn new_line(i: usize, at: usize, out: &mut [u8]) -> usize
@@ -98,9 +106,8 @@ pub(crate) fn unread(
 ) -> usize
     ensures { λ r. ⌜ Puts (unread (now (names .entry)) kind size v) at (now (out .entry)) r (now (out .exit)) ⌝ }
 {
-    let at1 = wording::copy(b"Message", at, out);
-    let at2 = on_kind(kind, size, at1, out);
-    refusal(names, v, at2, out)
+    let after = line(names, 0, kind, size, 0, at, out);
+    refusal(names, v, after, out)
 }
 
 // A message that was read, and lacks what it must have.
@@ -116,7 +123,7 @@ pub(crate) fn lacking(
     requires { ⌜ (length (now copy) ≤ 4097) × (length (now seen) ≤ 4097) ⌝ }
     ensures { λ r. ⌜ Puts (lacking (now (names .entry)) kind v (now (copy .entry)) (now (seen .entry))) at (now (out .entry)) r (now (out .exit)) ⌝ }
 {
-    let at1 = title(kind, copy, at, out);
+    let at1 = title(names, kind, copy, at, out);
     let at2 = refusal(names, v, at1, out);
     let at3 = dump_lines(seen, at2, out);
     wording::put(10, at3, out)
@@ -145,7 +152,7 @@ pub(crate) fn accepted<'a>(
     requires { ⌜ (length (now copy) ≤ 4097) × (length (now table) ≡ 6136) ⌝ }
     ensures { λ r. ⌜ Puts (accepted (now (names .entry)) kind (now (table .entry)) (length (now (message .entry))) (now (copy .entry)) (seenBy right (now (message .entry)) (now (copy .entry)))) at (now (out .entry)) r (now (out .exit)) ⌝ }
 {
-    let at1 = title(kind, copy, at, out);
-    let at2 = rows::heading(table, at1, out);
+    let at1 = title(names, kind, copy, at, out);
+    let at2 = rows::heading(names, table, at1, out);
     rows::lines(names, right, message, copy, table, at2, out)
 }

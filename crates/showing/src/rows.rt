@@ -2,55 +2,23 @@
 ghost use mathlib.Core.Path.{_≡_};
 ghost use mathlib.Core.Bool.{cond};
 ghost use Prim.Native.Nat.{_<_};
-ghost use lib.ListN.{length, getD};
+ghost use lib.ListN.{length};
 ghost use Rattle.rules.specs.Types.{isGroup};
 ghost use Rattle.rules.specs.Values.{cell};
 ghost use Rattle.wording.specs.Puts.{Puts};
-ghost use Rattle.showing.specs.Rows.{namedIn, element, valueText, entered, ending, rowNumbers, rowLine, countText, heading, rowLines};
-use phrases::names;
-
-// Number `at` of a table; 0 past its end.
-fn number(table: &[u16], at: usize) -> u16
-    ensures { λ r. ⌜ r ≡ getD (now (table .entry)) at 0 ⌝ }
-{
-    if at < table.len() {
-        return table[at];
-    }
-    0
-}
+ghost use Rattle.showing.specs.Rows.{valueText, entered, ending, rowRun, rowLine, heading, rowLines};
+use phrases::ENDINGS;
+use phrases::PAGES;
+use phrases::ROWS;
+use phrases::runs::number_at;
+use phrases::sentences::say;
 
 // Number `j` of a row.
 fn cell(table: &[u16], row: usize, j: usize) -> u16
     requires { ⌜ (row < 1022) × (j < 6) ⌝ }
     ensures { λ r. ⌜ r ≡ cell (now (table .entry)) row j ⌝ }
 {
-    number(table, 4 + 6 * row + j)
-}
-
-// Type and name in columns of so many octets.
-fn named(
-    names: &[u8],
-    number_width: usize,
-    name_width: usize,
-    typ: u16,
-    at: usize,
-    out: &mut [u8],
-) -> usize
-    ensures { λ r. ⌜ Puts (namedIn (now (names .entry)) «number_width» «name_width» typ) at (now (out .entry)) r (now (out .exit)) ⌝ }
-{
-    let at1 = wording::right(typ, number_width, at, out);
-    let at2 = wording::put(32, at1, out);
-    wording::left(names::element(names, typ), name_width, at2, out)
-}
-
-// An element inside a group stands two columns further in.
-fn element(names: &[u8], parent: u16, typ: u16, at: usize, out: &mut [u8]) -> usize
-    ensures { λ r. ⌜ Puts (element (now (names .entry)) parent typ) at (now (out .entry)) r (now (out .exit)) ⌝ }
-{
-    if parent == 0 {
-        return named(names, 4, 33, typ, at, out);
-    }
-    named(names, 6, 31, typ, at, out)
+    number_at(table, 4 + 6 * row + j)
 }
 
 // The octets of a value, 32 at most, so that a row stays one line.
@@ -86,32 +54,41 @@ fn entered(typ: u16, stand: u16) -> bool
 }
 
 // The standing, in a column if a value follows.
-fn ending(typ: u16, stand: u16, part: &[u8], at: usize, out: &mut [u8]) -> usize
-    ensures { λ r. ⌜ Puts (ending typ stand (now (part .entry))) at (now (out .entry)) r (now (out .exit)) ⌝ }
+fn ending(
+    names: &[u8],
+    run: &[u16],
+    typ: u16,
+    stand: u16,
+    part: &[u8],
+    at: usize,
+    out: &mut [u8],
+) -> usize
+    ensures { λ r. ⌜ Puts (ending (now (names .entry)) (now (run .entry)) typ stand (now (part .entry))) at (now (out .entry)) r (now (out .exit)) ⌝ }
 {
     if entered(typ, stand) {
-        return names::standing(stand, 0, at, out);
+        return say(ENDINGS, 0, names, run, at, out);
     }
     if part.len() == 0 {
-        return names::standing(stand, 0, at, out);
+        return say(ENDINGS, 0, names, run, at, out);
     }
-    let after = names::standing(stand, 11, at, out);
+    let after = say(ENDINGS, 1, names, run, at, out);
     value(part, after, out)
 }
 
-// The numbers of a row, which is shown as one more.
-fn numbers(names: &[u8], table: &[u16], row: usize, at: usize, out: &mut [u8]) -> usize
+// The numbers that are said of a row, which is shown as one more.
+fn row_run(table: &[u16], row: usize) -> [u16; 7]
     requires { ⌜ row < 1022 ⌝ }
-    ensures { λ r. ⌜ Puts (rowNumbers (now (names .entry)) (now (table .entry)) row) at (now (out .entry)) r (now (out .exit)) ⌝ }
+    ensures { λ r. ⌜ r ≡ rowRun (now (table .entry)) row ⌝ }
 {
-    let parent = cell(table, row, 0);
-    let at1 = wording::right((row + 1) as u16, 4, at, out);
-    let at2 = wording::right(parent, 7, at1, out);
-    let at3 = element(names, parent, cell(table, row, 1), at2, out);
-    let at4 = wording::right(cell(table, row, 2), 4, at3, out);
-    let at5 = wording::right(cell(table, row, 3), 6, at4, out);
-    let at6 = wording::right(cell(table, row, 4), 5, at5, out);
-    wording::put(32, at6, out)
+    [
+        (row + 1) as u16,
+        cell(table, row, 0),
+        cell(table, row, 1),
+        cell(table, row, 2),
+        cell(table, row, 3),
+        cell(table, row, 4),
+        cell(table, row, 5),
+    ]
 }
 
 // The line of a row; its value is what the desk's lookup answers.
@@ -128,36 +105,26 @@ fn line<'a>(
     requires { ⌜ row < 1022 ⌝ }
     ensures { λ r. ⌜ Puts (rowLine (now (names .entry)) (now (table .entry)) (length (now (message .entry))) (length (now (copy .entry))) (cond right (now (message .entry)) (now (copy .entry))) row) at (now (out .entry)) r (now (out .exit)) ⌝ }
 {
-    let typ = cell(table, row, 1);
-    let stand = cell(table, row, 5);
+    let run = row_run(table, row);
+    let parent = run[1];
+    let typ = run[2];
+    let stand = run[6];
     let part = lookup::desk(row, right, message, copy, table);
-    let at1 = numbers(names, table, row, at, out);
-    let at2 = ending(typ, stand, part, at1, out);
+    let at1 = say(ROWS, parent, names, &run, at, out);
+    let at2 = ending(names, &run, typ, stand, part, at1, out);
     wording::put(10, at2, out)
 }
 
-fn count(rows: u16, at: usize, out: &mut [u8]) -> usize
-    ensures { λ r. ⌜ Puts (countText rows) at (now (out .entry)) r (now (out .exit)) ⌝ }
-{
-    let after = wording::number(rows, at, out);
-    if rows == 1 {
-        return wording::copy(b" row, ", after, out);
-    }
-    wording::copy(b" rows, ", after, out)
-}
-
 // The counts, and the columns' heads.
-pub(crate) fn heading(table: &[u16], at: usize, out: &mut [u8]) -> usize
-    ensures { λ r. ⌜ Puts (heading (now (table .entry))) at (now (out .entry)) r (now (out .exit)) ⌝ }
+pub(crate) fn heading(names: &[u8], table: &[u16], at: usize, out: &mut [u8]) -> usize
+    ensures { λ r. ⌜ Puts (heading (now (names .entry)) (now (table .entry))) at (now (out .entry)) r (now (out .exit)) ⌝ }
 {
-    let rows = number(table, 0);
-    let kept = number(table, 1);
-    let at1 = wording::copy(b"accepted: ", at, out);
-    let at2 = count(rows, at1, out);
-    let at3 = wording::number(kept, at2, out);
-    wording::copy(
-        b" kept\n row parent element                              inst place  len standing\n",
-        at3,
+    say(
+        PAGES,
+        2,
+        names,
+        &[number_at(table, 0), number_at(table, 1)],
+        at,
         out,
     )
 }

@@ -39,16 +39,6 @@ pub fn mark_after(old: u8, stand: u8) -> u8
     1
 }
 
-// The level to enter: only what is kept is entered.
-pub fn inner_of(inside: u8, stand: u8) -> u8
-    ensures { λ r. ⌜ r ≡ cond (eqb stand 0) inside 0 ⌝ }
-{
-    if stand != 0 {
-        return 0;
-    }
-    inside
-}
-
 // The first mandatory short element: `now`, of an element that stands so, if none came before. 0 is none.
 pub fn first_fault(before: usize, must: bool, stand: u8, now: usize) -> usize
     ensures { λ r. ⌜ r ≡ firstFault before must stand now ⌝ }

@@ -52,6 +52,33 @@ unfolding forEach
 turns-length f most each i zero = omega arith
 turns-length f most each i (suc n) = omega (arith, length-append (f i) (forEach f (suc i) n), each i, turns-length f most each (suc i) n)
 
+-- ---- a text for each number of a list
+
+shift : (f : ℕ → List ℕ) (i n : ℕ) → forEach f (suc i) n ≡ forEach (λ j. f (suc j)) i n
+unfolding forEach
+shift f i zero = refl
+shift f i (suc n) = ap (f (suc i) ++_) (shift f (suc i) n)
+
+module _ (g : ℕ → List ℕ) where
+  pub each-none : forEach (λ i. g (getD [] i 0)) 0 0 ≡ []
+  unfolding forEach
+  each-none = refl
+
+  pub each-more : (x : ℕ) (t : List ℕ) → forEach (λ i. g (getD (x ∷ t) i 0)) 0 (suc (length t)) ≡ g x ++ forEach (λ i. g (getD t i 0)) 0 (length t)
+  unfolding forEach
+  each-more x t = ap (g x ++_) (shift (λ i. g (getD (x ∷ t) i 0)) 0 (length t))
+
+-- a bound for each number's text
+unfoldable pub sumOf : (ℕ → ℕ) → List ℕ → ℕ
+sumOf m [] = 0
+sumOf m (x ∷ t) = m x + sumOf m t
+
+pub each-length : (g : ℕ → List ℕ) (m : ℕ → ℕ) → ((x : ℕ) → length (g x) ≤ m x) → (t : List ℕ) → length (forEach (λ i. g (getD t i 0)) 0 (length t)) ≤ sumOf m t
+unfolding sumOf
+each-length g m each [] = rw (each-none g) (omega arith)
+each-length g m each (x ∷ t) =
+    rw (each-more g x t) (omega (arith, length-append (g x) (forEach (λ i. g (getD t i 0)) 0 (length t)), each x, each-length g m each t))
+
 -- ---- columns and octets
 
 gap-length : (width taken : ℕ) → length (gap width taken) ≤ width - taken

@@ -1,7 +1,7 @@
 // Text into a lent buffer, octet by octet, as far as the buffer reaches.
 ghost use mathlib.Core.Path.{_≡_};
 ghost use mathlib.Core.List.{[], _∷_};
-ghost use Prim.Native.Nat.{_≤_, _<_};
+ghost use Prim.Native.Nat.{_+_, _%_, _≤_, _<_};
 ghost use lib.ListN.{length};
 ghost use Rattle.rules.specs.Program.{digitAt, decimal};
 ghost use Rattle.wording.specs.Puts.{Puts};
@@ -18,6 +18,13 @@ pub fn put(octet: u8, at: usize, out: &mut [u8]) -> usize
     at
 }
 
+// The last digit of a number.
+fn figure(n: u16) -> u8
+    ensures { λ r. ⌜ r ≡ 48 + n % 10 ⌝ }
+{
+    (48 + n % 10) as u8
+}
+
 // The digit at a power of ten, if the number reaches it.
 fn digit(n: u16, power: u16, at: usize, out: &mut [u8]) -> usize
     requires { ⌜ 1 ≤ power ⌝ }
@@ -26,7 +33,7 @@ fn digit(n: u16, power: u16, at: usize, out: &mut [u8]) -> usize
     if n < power {
         return at;
     }
-    put((48 + n / power % 10) as u8, at, out)
+    put(figure(n / power), at, out)
 }
 
 // A number in decimal.
@@ -37,7 +44,7 @@ pub fn number(n: u16, at: usize, out: &mut [u8]) -> usize
     let at2 = digit(n, 1000, at1, out);
     let at3 = digit(n, 100, at2, out);
     let at4 = digit(n, 10, at3, out);
-    put((48 + n % 10) as u8, at4, out)
+    put(figure(n), at4, out)
 }
 
 // A blank and a number.

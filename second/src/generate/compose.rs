@@ -3,8 +3,8 @@
 
 use super::draft::{Draft, Element, Run, Value};
 use super::random::Random;
-use crate::listings::{self, Inst, Listed, Message};
-use crate::types;
+use crate::rules::{position, Inst, Listed, Message};
+use crate::DOCUMENT;
 
 /// Past so many octets only what is mandatory is added, at its least length,
 /// so that a message stays below 4,096 octets.
@@ -25,21 +25,21 @@ pub fn compose(random: &mut Random, kind: u32, message: &'static Message) -> Dra
         share,
         octets: 0,
     };
-    let body = composer.run(message.body);
+    let body = composer.run(&message.body);
     Draft { message, body }
 }
 
 /// A value long enough for its type.
 pub fn good_value(random: &mut Random, typ: u8, extra: usize) -> Vec<u8> {
     let first = random.octet();
-    let length = types::least(typ, &[first]) + extra;
+    let length = DOCUMENT.facts(typ).least(&[first]) + extra;
     value(random, first, length)
 }
 
 /// A value below its type's least length; empty where none can be.
 pub fn short_value(random: &mut Random, typ: u8) -> Vec<u8> {
     let first = random.octet();
-    let length = random.below(types::least(typ, &[first]));
+    let length = random.below(DOCUMENT.facts(typ).least(&[first]));
     value(random, first, length)
 }
 
@@ -111,9 +111,9 @@ impl Composer<'_> {
         };
         let mut element = Element::plain(listed.typ, inst, Vec::new());
         element.spare = self.spare();
-        element.value = if types::of(listed.typ).group {
+        element.value = if DOCUMENT.facts(listed.typ).group {
             self.octets += 4;
-            Value::Group(self.run(listed.inside))
+            Value::Group(self.run(&listed.inside))
         } else {
             Value::Plain(self.value(listed))
         };
@@ -158,13 +158,13 @@ impl Composer<'_> {
         }
     }
 
-    /// An element whose pair is not listed at this level for this kind; one of
-    /// a group's type may hold anything, since it is not entered.
+    /// An element that this kind lists nowhere at the level; one of a group's
+    /// type may hold anything, since it is not entered.
     fn unexpected(&mut self, listing: &[Listed]) -> Element {
         let (typ, inst) = self.unlisted_pair(listing);
         let length = self.random.below(13);
         self.octets += 4 + length;
-        let value = if types::of(typ).group && self.random.percent(50) {
+        let value = if DOCUMENT.facts(typ).group && self.random.percent(50) {
             nested(self.random)
         } else {
             Value::Plain(self.random.octets(length))
@@ -188,7 +188,7 @@ impl Composer<'_> {
             } else {
                 self.random.below(16) as u8
             };
-            if listings::position(listing, self.kind, typ, inst).is_none() {
+            if position(listing, self.kind, typ, inst).is_none() {
                 return (typ, inst);
             }
         }
@@ -202,8 +202,8 @@ impl Composer<'_> {
         }
         let first = self.random.below(run.elements.len());
         let Element { typ, inst, .. } = run.elements[first];
-        let once = listings::position(listing, self.kind, typ, inst)
-            .is_some_and(|position| !listing[position].many);
+        let once =
+            position(listing, self.kind, typ, inst).is_some_and(|position| !listing[position].many);
         if once {
             let length = self.random.below(10);
             self.octets += 4 + length;

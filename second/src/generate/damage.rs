@@ -5,8 +5,7 @@ use super::compose::short_value;
 use super::draft::{mend_length, Draft, Element, Value};
 use super::random::Random;
 use super::Case;
-use crate::framing::LONGEST_MESSAGE;
-use crate::listings;
+use crate::DOCUMENT;
 
 /// Damages a draft, its octets, or both, with at least one fault.
 pub fn damage(random: &mut Random, kind: u32, mut draft: Draft) -> Case {
@@ -116,7 +115,7 @@ fn oversize(random: &mut Random, case: &mut Case) {
     let longest = if random.percent(2) {
         65_539
     } else {
-        LONGEST_MESSAGE
+        DOCUMENT.sizes.longest
     };
     let length = longest + random.between(1, 40);
     case.message.resize(length, 0);
@@ -162,7 +161,7 @@ fn header_length(random: &mut Random, case: &mut Case) {
 fn unlisted_message(random: &mut Random, case: &mut Case) {
     if let Some(typ) = case.message.get_mut(1) {
         *typ = random.octet();
-        while listings::message_of(*typ).is_some() {
+        while DOCUMENT.message_of(*typ).is_some() {
             *typ = typ.wrapping_add(1);
         }
     }

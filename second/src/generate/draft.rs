@@ -1,7 +1,7 @@
 //! A message in the making: a tree of elements, and its octets.
 
 use super::random::Random;
-use crate::listings::Message;
+use crate::rules::Message;
 
 /// A message with what stands in its body.
 #[derive(Debug, Clone)]
@@ -64,6 +64,19 @@ impl Run {
             element.put(octets);
         }
         octets.extend(&self.remnant);
+    }
+
+    /// The run of the first group of these pairs, one inside the other.
+    pub fn at(&mut self, path: &[(u8, u8)]) -> Option<&mut Run> {
+        let Some(((typ, inst), rest)) = path.split_first() else {
+            return Some(self);
+        };
+        let mut elements = self.elements.iter_mut();
+        let group = elements.find(|e| (e.typ, e.inst) == (*typ, *inst))?;
+        match &mut group.value {
+            Value::Group(run) => run.at(rest),
+            Value::Plain(_) => None,
+        }
     }
 
     /// This run or that of some group in it.

@@ -3,17 +3,14 @@
 
 use super::random::Random;
 use super::{Case, Generator};
-use crate::judge::judge;
-use crate::lookup::{desk_part, plain_part};
-use crate::mask::mask;
-use crate::table::{self, HEADER, MOST_ROWS, PER_ROW};
-use crate::walk::walk;
+use crate::rules::Rules;
+use crate::{Verdict, DOCUMENT};
 
 impl Case {
     /// The numbers that the judge's table needs for this case.
     pub fn table_need(&self) -> usize {
-        let rows = walk(self.kind, &self.message).map_or(0, |walk| walk.rows.len());
-        table::used(rows)
+        let rows = DOCUMENT.rows(self.kind, &self.message);
+        DOCUMENT.used(rows.map_or(0, |rows| rows.len()))
     }
 
     /// Lengths of lent tables: one short, exact, longer, and the tiny ones.
@@ -26,6 +23,47 @@ impl Case {
     pub fn copy_lengths(&self) -> Vec<usize> {
         let length = self.message.len();
         vec![length.saturating_sub(1), length, length + 1, length + 20, 0]
+    }
+}
+
+/// Lengths in octets of the buffers lent with a case: the judge's table, the
+/// masker's copy, and the five numbers of either.
+#[derive(Debug, Clone, Copy, PartialEq, Eq)]
+pub struct Buffers {
+    pub table: usize,
+    pub copy: usize,
+    pub five: usize,
+}
+
+/// Lengths for the five numbers: exact, longer, one short, none.
+const FIVES: [usize; 5] = [10, 11, 13, 9, 0];
+
+impl Case {
+    /// As much as the case needs.
+    pub fn enough(&self) -> Buffers {
+        Buffers {
+            table: 2 * self.table_need(),
+            copy: self.message.len(),
+            five: 2 * Verdict::NUMBERS,
+        }
+    }
+
+    /// What is lent with a case in two trials: once all that it needs, and once
+    /// whatever chance gives.
+    pub fn buffers(&self, seed: u64) -> [Buffers; 2] {
+        let mut random = Random::new(seed);
+        let enough = self.enough();
+        let enough = Buffers {
+            table: enough.table + random.below(2),
+            five: *random.pick(&FIVES[..3]),
+            ..enough
+        };
+        let some = Buffers {
+            table: 2 * random.pick(&self.table_lengths()) + random.below(2),
+            copy: *random.pick(&self.copy_lengths()),
+            five: *random.pick(&FIVES),
+        };
+        [enough, some]
     }
 }
 
@@ -46,12 +84,11 @@ pub struct Lookup {
 }
 
 impl Lookup {
-    pub fn answer(&self) -> Option<&[u8]> {
+    pub fn answer(&self, rules: &Rules) -> Option<&[u8]> {
+        let Self { message, table, .. } = self;
         match self.ask {
-            Ask::Plain { typ, inst } => plain_part(typ, inst, &self.message, &self.table),
-            Ask::Desk { row, right } => {
-                desk_part(row, right, &self.message, &self.copy, &self.table)
-            }
+            Ask::Plain { typ, inst } => rules.plain_part(typ, inst, message, table),
+            Ask::Desk { row, right } => rules.desk_part(row, right, message, &self.copy, table),
         }
     }
 }
@@ -72,19 +109,21 @@ impl Generator {
     pub fn lookup(&mut self) -> Lookup {
         let Case { kind, message } = self.good();
         let random = &mut self.random;
-        let mut table = vec![0; table::used(MOST_ROWS)];
-        judge(kind, &message, &mut table);
+        let mut table = vec![0; DOCUMENT.used(DOCUMENT.sizes.most_rows)];
+        DOCUMENT.judge(kind, &message, &mut table);
         table.truncate(usize::from(table[3]) + random.below(3));
         let mut copy = vec![0; message.len()];
-        mask(kind, &message, &mut copy);
-        match random.below(10) {
+        DOCUMENT.mask(kind, &message, &mut copy);
+        match random.below(12) {
             0..=4 => {}
             5..=6 => spoil(random, &mut table),
             7..=8 => {
                 let hostile = hostile_tables(message.len());
                 table = random.pick(&hostile).clone();
             }
-            _ => copy.truncate(random.below(copy.len() + 1)),
+            9 => copy.truncate(random.below(copy.len() + 1)),
+            10 => copy.truncate(copy.len() - 1),
+            _ => copy.resize(copy.len() + random.between(1, 2), 0),
         }
         Lookup {
             ask: ask(random, &table),
@@ -112,8 +151,8 @@ fn spoil(random: &mut Random, table: &mut Vec<u16>) {
 
 /// Asks mostly for something that the table has.
 fn ask(random: &mut Random, table: &[u16]) -> Ask {
-    let rows = table.get(HEADER..).unwrap_or_default();
-    let rows = rows.chunks_exact(PER_ROW).collect::<Vec<_>>();
+    let rows = table.get(DOCUMENT.sizes.table_header..).unwrap_or_default();
+    let rows = rows.chunks_exact(DOCUMENT.sizes.row).collect::<Vec<_>>();
     if random.percent(50) {
         let row = match random.below(20) {
             0 => usize::MAX,

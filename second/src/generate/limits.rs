@@ -4,8 +4,9 @@ use super::compose::{compose, good_value};
 use super::draft::{mend_length, Draft, Element, Run, Value};
 use super::random::Random;
 use super::Case;
-use crate::framing::{ELEMENT_HEADER, LONGEST_MESSAGE};
-use crate::listings::{self, Message, MESSAGES};
+use crate::framing::ELEMENT_HEADER;
+use crate::rules::Message;
+use crate::DOCUMENT;
 
 pub fn at_limit(random: &mut Random) -> Case {
     let shapes = [
@@ -19,17 +20,19 @@ pub fn at_limit(random: &mut Random) -> Case {
     random.pick(&shapes)(random)
 }
 
-fn some_kind(random: &mut Random) -> u32 {
-    random.between(1, 3) as u32
+/// The limits that the judge program has, one after the other.
+pub fn in_turn(random: &mut Random, turn: usize) -> Case {
+    let shapes = [filled, one_too_long, all_empty];
+    shapes[turn % shapes.len()](random)
 }
 
 fn some_message(random: &mut Random) -> &'static Message {
-    random.pick(&MESSAGES)
+    random.pick(&DOCUMENT.messages)
 }
 
 /// A good message filled to `length` octets by one long private extension.
 fn filled_to(random: &mut Random, length: usize) -> Case {
-    let kind = some_kind(random);
+    let kind = random.kind();
     let message = some_message(random);
     let mut octets = compose(random, kind, message).octets(random);
     let value = length - octets.len() - ELEMENT_HEADER;
@@ -48,31 +51,33 @@ fn filled_to(random: &mut Random, length: usize) -> Case {
 }
 
 fn filled(random: &mut Random) -> Case {
-    filled_to(random, LONGEST_MESSAGE)
+    filled_to(random, DOCUMENT.sizes.longest)
 }
 
 fn one_too_long(random: &mut Random) -> Case {
-    filled_to(random, LONGEST_MESSAGE + 1)
+    filled_to(random, DOCUMENT.sizes.longest + 1)
 }
 
 /// 4,096 octets and then one to three of them cut from the last element's
 /// claim, so that they are left over at the message's level.
 fn remnant(random: &mut Random) -> Case {
     let left = random.between(1, 3);
-    let mut case = filled_to(random, LONGEST_MESSAGE - left);
+    let mut case = filled_to(random, DOCUMENT.sizes.longest - left);
     case.message.extend(random.octets(left));
     mend_length(&mut case.message);
     case
 }
 
 fn echo(random: &mut Random, elements: Vec<Element>) -> Case {
-    let message = listings::message_of(random.between(1, 2) as u8).expect("echo is listed");
+    let message = DOCUMENT
+        .message_of(random.between(1, 2) as u8)
+        .expect("echo is listed");
     let body = Run {
         elements,
         remnant: Vec::new(),
     };
     Case {
-        kind: some_kind(random),
+        kind: random.kind(),
         message: Draft { message, body }.octets(random),
     }
 }
@@ -99,9 +104,9 @@ fn most_kept(random: &mut Random) -> Case {
 
 /// As many bearer contexts as a message holds.
 fn most_groups(random: &mut Random) -> Case {
-    let message = listings::message_of(66).expect("66 is listed");
+    let message = DOCUMENT.message_of(66).expect("66 is listed");
     let mut elements = Vec::new();
-    for _ in 0..(LONGEST_MESSAGE - 12) / 9 {
+    for _ in 0..(DOCUMENT.sizes.longest - 12) / 9 {
         let inside = Run {
             elements: vec![Element::plain(73, 0, good_value(random, 73, 0))],
             remnant: Vec::new(),
@@ -116,7 +121,7 @@ fn most_groups(random: &mut Random) -> Case {
         remnant: Vec::new(),
     };
     Case {
-        kind: some_kind(random),
+        kind: random.kind(),
         message: Draft { message, body }.octets(random),
     }
 }

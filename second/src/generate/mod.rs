@@ -4,14 +4,16 @@
 mod compose;
 mod damage;
 mod draft;
+mod figures;
 mod lend;
 mod limits;
 mod random;
 
-pub use lend::{hostile_tables, Ask, Lookup};
+pub use figures::figures;
+pub use lend::{hostile_tables, Ask, Buffers, Lookup};
 pub use random::Random;
 
-use crate::listings::MESSAGES;
+use crate::DOCUMENT;
 use draft::Draft;
 
 /// A message and the kind it is given with.
@@ -19,6 +21,14 @@ use draft::Draft;
 pub struct Case {
     pub kind: u32,
     pub message: Vec<u8>,
+}
+
+impl Case {
+    /// The case as the judge program reads it, if its kind is an octet.
+    pub fn input(&self) -> Option<Vec<u8>> {
+        let kind = u8::try_from(self.kind).ok()?;
+        Some([&[kind], &self.message[..]].concat())
+    }
 }
 
 /// The same seed gives the same cases on every platform.
@@ -61,9 +71,19 @@ impl Generator {
         limits::at_limit(&mut self.random)
     }
 
+    /// So many for the programs: the ordinary mix, and one in twelve at the limit
+    /// of octets, past it, or at that of elements.
+    pub fn inputs(&mut self, count: usize) -> Vec<Case> {
+        let case = |turn| match turn % 12 {
+            0 => limits::in_turn(&mut self.random, turn / 12),
+            _ => self.case(),
+        };
+        (0..count).map(case).collect()
+    }
+
     fn draft(&mut self) -> (u32, Draft) {
-        let kind = self.random.between(1, 3) as u32;
-        let message = self.random.pick(&MESSAGES);
+        let kind = self.random.kind();
+        let message = self.random.pick(&DOCUMENT.messages);
         (kind, compose::compose(&mut self.random, kind, message))
     }
 }

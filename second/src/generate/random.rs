@@ -1,5 +1,7 @@
 //! A small seeded source of numbers (SplitMix64), the same on every platform.
 
+use crate::DOCUMENT;
+
 #[derive(Debug, Clone)]
 pub struct Random {
     state: u64,
@@ -31,6 +33,12 @@ impl Random {
     /// Yes in so many cases out of a hundred.
     pub fn percent(&mut self, percent: usize) -> bool {
         self.below(100) < percent
+    }
+
+    /// One of the kinds that there are.
+    pub fn kind(&mut self) -> u32 {
+        let (first, last) = (*DOCUMENT.kinds.start(), *DOCUMENT.kinds.end());
+        self.between(first as usize, last as usize) as u32
     }
 
     pub fn octet(&mut self) -> u8 {

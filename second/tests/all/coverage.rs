@@ -1,15 +1,16 @@
-//! What a run of the generator meets, counted; nothing may stay at zero.
+//! What the gate's messages and lookups meet, counted: nothing fewer than ten
+//! times.
 
 use std::collections::BTreeMap;
 
 use crate::support::judged;
-use second::generate::{Case, Generator};
-use second::listings::{lines, Line};
-use second::types;
-use second::walk::{walk, Row, Standing};
-use second::{judge, mask};
+use second::generate::{figures, Ask, Case, Generator, Lookup};
+use second::listings::Line;
+use second::rules::Standing;
+use second::walk::Row;
+use second::{judge, mask, DOCUMENT};
 
-const CASES: usize = 300_000;
+const AT_LEAST: usize = 10;
 
 /// A count for each name; every name is set up before the run.
 #[derive(Default)]
@@ -27,25 +28,29 @@ impl Counts {
         }
     }
 
-    fn assert_none_is_zero(&self) {
-        let never = self.0.iter().filter(|(_, &count)| count == 0);
-        let never = never.map(|(name, _)| name).collect::<Vec<_>>();
-        assert!(never.is_empty(), "never met: {never:#?}");
+    fn assert_enough(&self) {
+        let rare = self.0.iter().filter(|(_, &count)| count < AT_LEAST);
+        let rare = rare.collect::<Vec<_>>();
+        assert!(rare.is_empty(), "met too rarely: {rare:#?}");
     }
 }
 
-/// The level's name where an element at `place` stands, read off the body.
-fn level_of(message: &[u8], place: usize) -> &'static str {
+/// The level where an element at `place` stands, and its end, read off the body.
+fn level_of(message: &[u8], place: usize) -> (&'static str, usize) {
     let mut at = if message[0] & 8 == 0 { 8 } else { 12 };
     while at < place {
-        let length = u16::from_be_bytes([message[at + 1], message[at + 2]]);
-        let end = at + 4 + usize::from(length);
+        let end = at + 4 + claim(message, at);
         if place < end {
-            return group_name(message[at]);
+            return (group_name(message[at]), end);
         }
         at = end;
     }
-    "the message"
+    ("the message", message.len())
+}
+
+/// The length that the element there has by its own word.
+fn claim(message: &[u8], at: usize) -> usize {
+    usize::from(u16::from_be_bytes([message[at + 1], message[at + 2]]))
 }
 
 fn group_name(typ: u8) -> &'static str {
@@ -56,17 +61,33 @@ fn group_name(typ: u8) -> &'static str {
     }
 }
 
+const LEVELS: [&str; 3] = ["the message", "a 93", "a 180"];
+
 fn count_verdict(counts: &mut Counts, case: &Case) {
     let (verdict, _) = judged(case.kind, &case.message);
     counts.count(&format!("code {}", verdict.code));
     let place = usize::from(verdict.place);
-    let level = match verdict.code {
-        9 | 11 => level_of(&case.message, place),
-        12 if place == 0 => "the message",
-        12 => group_name(case.message[place]),
-        _ => return,
-    };
-    counts.count(&format!("code {} in {level}", verdict.code));
+    match verdict.code {
+        9 => {
+            let (level, end) = level_of(&case.message, place);
+            let left = end - place;
+            let over = match left {
+                1..=3 => format!("{left} left"),
+                _ => format!("{} too long", claim(&case.message, place) + 4 - left),
+            };
+            counts.count(&format!("code 9 in {level}: {over}"));
+        }
+        11 => {
+            let (level, _) = level_of(&case.message, place);
+            counts.count(&format!("code 11 in {level}"));
+        }
+        12 if place == 0 => counts.count("code 12 in the message"),
+        12 => {
+            let level = group_name(case.message[place]);
+            counts.count(&format!("code 12 in {level}"));
+        }
+        _ => {}
+    }
 }
 
 #[test]
@@ -75,15 +96,30 @@ fn every_code_at_every_level() {
     for code in (0..=13).filter(|&code| code != 10 && code != 13) {
         counts.expect(format!("code {code}"));
     }
-    for code in [9, 11, 12] {
-        for level in ["the message", "a 93", "a 180"] {
-            counts.expect(format!("code {code} in {level}"));
+    for level in LEVELS {
+        for shape in ["1 left", "2 left", "3 left", "1 too long", "2 too long"] {
+            counts.expect(format!("code 9 in {level}: {shape}"));
         }
+        counts.expect(format!("code 11 in {level}"));
+        counts.expect(format!("code 12 in {level}"));
     }
-    for case in Generator::new(61).take(CASES) {
+    for case in figures() {
         count_verdict(&mut counts, &case);
     }
-    counts.assert_none_is_zero();
+    counts.assert_enough();
+}
+
+/// The ordinary mix need not meet everything so often, but it meets every code.
+#[test]
+fn every_code_in_the_mix() {
+    let mut counts = Counts::default();
+    for code in (0..=12).filter(|&code| code != 10) {
+        counts.expect(format!("code {code}"));
+    }
+    for case in Generator::new(61).take(10_000) {
+        count_verdict(&mut counts, &case);
+    }
+    counts.assert_enough();
 }
 
 /// Verdict code and length of the lent buffer, one for each way to lend it.
@@ -113,33 +149,36 @@ fn tables_and_copies_of_every_length() {
     }
     counts.expect("table one short: code 9");
     counts.expect("copy one short: code 9");
-    let mut generator = Generator::new(62);
-    for _ in 0..CASES / 3 {
-        let case = generator.case();
-        let mut table = vec![0; generator.table_length(&case)];
-        let code = judge(case.kind, &case.message, &mut table).code;
-        count_lent(&mut counts, "table", code, table.len(), case.table_need());
-        let mut copy = vec![0; generator.copy_length(&case)];
-        let code = mask(case.kind, &case.message, &mut copy).code;
-        count_lent(&mut counts, "copy", code, copy.len(), case.message.len());
+    for (seed, case) in figures().iter().enumerate() {
+        for lent in case.buffers(seed as u64) {
+            let mut table = vec![0; lent.table / 2];
+            let code = judge(case.kind, &case.message, &mut table).code;
+            count_lent(&mut counts, "table", code, table.len(), case.table_need());
+            let mut copy = vec![0; lent.copy];
+            let code = mask(case.kind, &case.message, &mut copy).code;
+            count_lent(&mut counts, "copy", code, copy.len(), case.message.len());
+        }
     }
-    counts.assert_none_is_zero();
+    counts.assert_enough();
 }
 
 /// What is expected of one line of a listing.
 fn expect_line(counts: &mut Counts, lines: &[Line], line: &Line) {
-    let can_be_short = types::least(line.listed.typ, &[]) > 0;
+    let can_be_short = DOCUMENT.facts(line.listed.typ).least(&[]) > 0;
     for kind in (1..=3).filter(|&kind| level_is_entered(lines, line, kind)) {
         if !line.listed.kinds.has(kind) {
             counts.expect(format!("{line}: not listed on {kind}"));
             continue;
         }
         counts.expect(format!("{line}: kept on {kind}"));
-        if !line.listed.many {
-            counts.expect(format!("{line}: repeated on {kind}"));
-        }
         if can_be_short {
             counts.expect(format!("{line}: short on {kind}"));
+        }
+        if !line.listed.many {
+            counts.expect(format!("{line}: repeated after kept on {kind}"));
+            if can_be_short {
+                counts.expect(format!("{line}: repeated after short on {kind}"));
+            }
         }
     }
 }
@@ -170,28 +209,167 @@ fn count_row(counts: &mut Counts, lines: &[Line], case: &Case, rows: &[Row], row
         return;
     };
     let standing = match row.standing {
-        Standing::Kept => "kept on",
-        Standing::Unexpected => "not listed on",
-        Standing::Repeated => "repeated on",
-        Standing::Short => "short on",
+        Standing::Kept => "kept",
+        Standing::Unexpected => "not listed",
+        Standing::Short => "short",
+        Standing::Repeated => match first_of(rows, row).standing {
+            Standing::Kept => "repeated after kept",
+            _ => "repeated after short",
+        },
     };
-    counts.count(&format!("{line}: {standing} {}", case.kind));
+    counts.count(&format!("{line}: {standing} on {}", case.kind));
+}
+
+/// The first row of the same pair at the same level.
+fn first_of<'a>(rows: &'a [Row], row: &Row) -> &'a Row {
+    let key = |row: &Row| (row.parent, row.typ, row.inst);
+    let mut rows = rows.iter();
+    let first = rows.find(|other| key(other) == key(row));
+    first.expect("it is one itself")
 }
 
 #[test]
 fn every_line_of_every_listing() {
-    let lines = lines();
+    let lines = DOCUMENT.lines();
     let mut counts = Counts::default();
     for line in &lines {
         expect_line(&mut counts, &lines, line);
     }
-    for case in Generator::new(63).take(CASES) {
-        if let Ok(walk) = walk(case.kind, &case.message) {
+    for case in figures() {
+        if let Ok(rows) = DOCUMENT.rows(case.kind, &case.message) {
             // The crowded messages at the limits add nothing but time.
-            for row in walk.rows.iter().take(100) {
-                count_row(&mut counts, &lines, &case, &walk.rows, row);
+            for row in rows.iter().take(200) {
+                count_row(&mut counts, &lines, &case, &rows, row);
             }
         }
     }
-    counts.assert_none_is_zero();
+    counts.assert_enough();
+}
+
+/// Each mandatory line by leaving it out and by making it short, each place,
+/// type and instance by its own.
+#[test]
+fn every_mandatory_line_is_told() {
+    let mut counts = Counts::default();
+    let lines = DOCUMENT.lines();
+    for line in lines.iter().filter(|line| line.listed.mandatory) {
+        let level = line
+            .level
+            .map_or((0, 0), |(typ, inst)| (typ, inst.number()));
+        let pair = (line.listed.typ, line.listed.inst.number());
+        counts.expect(format!("12: {} {level:?} {pair:?}", line.message));
+        if !DOCUMENT.facts(line.listed.typ).group {
+            counts.expect(format!("11: {} {level:?} {pair:?}", line.message));
+        }
+    }
+    for case in figures() {
+        let (verdict, _) = judged(case.kind, &case.message);
+        let place = usize::from(verdict.place);
+        let group = match verdict.code {
+            12 => place,
+            11 => group_around(&case.message, place),
+            _ => continue,
+        };
+        let level = match group {
+            0 => (0, 0),
+            _ => (case.message[group], case.message[group + 3] & 0x0F),
+        };
+        let pair = (verdict.typ, verdict.inst);
+        let name = format!("{}: {} {level:?} {pair:?}", verdict.code, case.message[1]);
+        counts.count(&name);
+    }
+    counts.assert_enough();
+}
+
+/// The first octet of the group that has the element at `place`, or 0.
+fn group_around(message: &[u8], place: usize) -> usize {
+    let mut at = if message[0] & 8 == 0 { 8 } else { 12 };
+    loop {
+        let end = at + 4 + claim(message, at);
+        if at == place {
+            return 0;
+        }
+        if place < end {
+            return at;
+        }
+        at = end;
+    }
+}
+
+/// Rows of a table around the 64 that the small scratch of the library holds,
+/// accepted and refused.
+#[test]
+fn rows_around_the_small_scratch() {
+    let mut counts = Counts::default();
+    for rows in 63..=66 {
+        counts.expect(format!("{rows} rows"));
+    }
+    for case in figures() {
+        if let Ok(rows) = DOCUMENT.rows(case.kind, &case.message) {
+            counts.count(&format!("{} rows", rows.len()));
+        }
+    }
+    counts.assert_enough();
+}
+
+/// Where a lookup's part, row or buffer stands to its edge.
+fn edges(lookup: &Lookup) -> Vec<&'static str> {
+    let Lookup { table, message, .. } = lookup;
+    let mut edges = Vec::new();
+    let rows = table.first().map_or(0, |&rows| usize::from(rows));
+    match table.len() {
+        0..=3 => edges.push("table without a header"),
+        length if length + 1 == 4 + 6 * rows => edges.push("table one short"),
+        length if length == 4 + 6 * rows => edges.push("table exact"),
+        _ => {}
+    }
+    if let Ask::Desk { row, .. } = lookup.ask {
+        edges.extend((row == rows).then_some("row past the last"));
+        edges.extend((row + 1 == rows).then_some("last row"));
+        match lookup.copy.len() as isize - message.len() as isize {
+            -1 => edges.push("copy one shorter"),
+            1 => edges.push("copy one longer"),
+            _ => {}
+        }
+        if let Some(&[.., place, length, _]) = table
+            .get(4 + 6 * row.min(rows)..)
+            .and_then(<[_]>::first_chunk::<6>)
+        {
+            match (usize::from(place) + usize::from(length)) as isize - message.len() as isize {
+                0 if length == 0 => edges.push("empty part at the end"),
+                0 => edges.push("part up to the end"),
+                1 if length == 0 => edges.push("empty part past the end"),
+                1 => edges.push("part one past the end"),
+                _ => {}
+            }
+        }
+    }
+    edges
+}
+
+#[test]
+fn lookups_at_every_edge() {
+    let mut counts = Counts::default();
+    for edge in [
+        "table without a header",
+        "table one short",
+        "table exact",
+        "row past the last",
+        "last row",
+        "copy one shorter",
+        "copy one longer",
+        "empty part at the end",
+        "part up to the end",
+        "empty part past the end",
+        "part one past the end",
+    ] {
+        counts.expect(edge);
+    }
+    let mut generator = Generator::new(1);
+    for _ in 0..20_000 {
+        for edge in edges(&generator.lookup()) {
+            counts.count(edge);
+        }
+    }
+    counts.assert_enough();
 }

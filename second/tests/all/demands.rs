@@ -2,11 +2,11 @@
 
 use crate::support::{judged, rows, UNTOUCHED};
 use second::generate::{Case, Generator, Random};
-use second::listings::{lines, Line};
-use second::walk::{walk, Standing};
-use second::{covered, judge, mask, Verdict};
+use second::listings::Line;
+use second::rules::{Check, Standing};
+use second::{judge, mask, Verdict, DOCUMENT};
 
-const CASES: usize = 60_000;
+const CASES: usize = 24_000;
 
 /// Each row begins where the one before it at its level ended, the first where
 /// the level begins, and the last ends where the level ends.
@@ -49,9 +49,9 @@ fn rows_lie_within_their_parents_and_siblings_never_overlap() {
 
 /// The first mandatory pair without a kept row, looked for level by level.
 fn missing_by_hand(lines: &[Line], case: &Case) -> Option<Verdict> {
-    let rows = walk(case.kind, &case.message)
-        .expect("a whole message")
-        .rows;
+    let rows = DOCUMENT
+        .rows(case.kind, &case.message)
+        .expect("a whole message");
     let mut levels = vec![(0, 0, None)];
     for (number, row) in rows.iter().enumerate() {
         if row.standing == Standing::Kept && matches!(row.typ, 93 | 180) {
@@ -71,7 +71,7 @@ fn missing_by_hand(lines: &[Line], case: &Case) -> Option<Verdict> {
                     && (row.typ, row.inst) == (typ, inst)
             });
             if !kept {
-                return Some(Verdict::missing(place, typ, inst));
+                return Some(DOCUMENT.refusal(Check::Missing).at(place).of(typ, inst));
             }
         }
     }
@@ -80,7 +80,7 @@ fn missing_by_hand(lines: &[Line], case: &Case) -> Option<Verdict> {
 
 #[test]
 fn missing_is_given_exactly_when_a_required_pair_has_no_kept_row() {
-    let lines = lines();
+    let lines = DOCUMENT.lines();
     let mut missing = 0;
     for case in Generator::new(12).take(CASES) {
         let (verdict, _) = judged(case.kind, &case.message);
@@ -90,7 +90,7 @@ fn missing_is_given_exactly_when_a_required_pair_has_no_kept_row() {
             missing += usize::from(verdict.code == 12);
         }
     }
-    assert!(missing > 1000);
+    assert!(missing > CASES / 60);
 }
 
 /// The message with its covered octets drawn anew.
@@ -126,7 +126,7 @@ fn covered_octets_change_nothing() {
     let mut pairs = 0;
     for _ in 0..CASES {
         let case = generator.case();
-        let covered = covered(case.kind, &case.message);
+        let covered = DOCUMENT.covered(case.kind, &case.message);
         let other = Case {
             kind: case.kind,
             message: other_covered(&mut random, &case.message, &covered),
@@ -160,9 +160,9 @@ fn lent_tables_of_all_lengths() {
         let (largest, used) = judged(case.kind, &case.message);
         for length in case.table_lengths() {
             let (verdict, table) = judged_in(&case, vec![UNTOUCHED; length]);
-            let passes_9 = walk(case.kind, &case.message).is_ok();
+            let passes_9 = DOCUMENT.rows(case.kind, &case.message).is_ok();
             let expected = if passes_9 && length < need {
-                Verdict::SMALL_TABLE
+                DOCUMENT.refusal(Check::TableRoom)
             } else {
                 largest
             };
@@ -177,12 +177,12 @@ fn lent_tables_of_all_lengths() {
 #[test]
 fn lent_copies_of_all_lengths() {
     for case in Generator::new(16).take(CASES / 6) {
-        let framing = walk(case.kind, &case.message).err();
+        let framing = DOCUMENT.rows(case.kind, &case.message).err();
         for length in case.copy_lengths() {
             let (verdict, _) = masked_in(&case, vec![0; length]);
             let expected = match framing {
                 Some(refusal) => refusal,
-                None if length < case.message.len() => Verdict::SMALL_COPY,
+                None if length < case.message.len() => DOCUMENT.refusal(Check::CopyRoom),
                 None => Verdict::ACCEPTED,
             };
             assert_eq!(verdict, expected);

@@ -1,7 +1,7 @@
 //! Examples A to M of document 01, every variant in its text.
 
 use crate::support::{five, octets, table};
-use second::{mask, program, Verdict};
+use second::{mask, Verdict, DOCUMENT};
 
 const D: &str = "40 01 00 09 00 00 01 00 03 00 01 00 07";
 const G: &str = "48 42 00 11 00 00 00 01 00 00 02 00 5D 00 05 00 49 00 01 00 05";
@@ -71,7 +71,7 @@ fn g_group() {
     assert_eq!(table(1, &message), expected);
     let input = [&[1], &message[..]].concat();
     assert_eq!(
-        program(&input),
+        DOCUMENT.program(&input),
         "accept 2 2\n0 93 0 16 5 0\n1 73 0 20 1 0\n"
     );
 }

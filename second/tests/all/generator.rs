@@ -2,7 +2,7 @@
 
 use crate::support::judged;
 use second::generate::{Case, Generator, Random};
-use second::walk::walk;
+use second::DOCUMENT;
 
 #[test]
 fn numbers_are_those_of_splitmix64() {
@@ -25,7 +25,7 @@ fn one_seed_gives_one_run() {
 #[test]
 fn good_messages_are_accepted() {
     let mut generator = Generator::new(51);
-    for _ in 0..50_000 {
+    for _ in 0..20_000 {
         let case = generator.good();
         let (verdict, _) = judged(case.kind, &case.message);
         assert!(verdict.accepted(), "{verdict:?} {case:?}");
@@ -42,7 +42,8 @@ fn limits_are_met_exactly() {
     for _ in 0..500 {
         let case = generator.at_limit();
         one_too_long += usize::from(case.message.len() == 4097);
-        let rows = walk(case.kind, &case.message).map_or(0, |walk| walk.rows.len());
+        let rows = DOCUMENT.rows(case.kind, &case.message);
+        let rows = rows.map_or(0, |rows| rows.len());
         most_rows = rows.max(most_rows);
         if judged(case.kind, &case.message).0.accepted() {
             longest_accepted = case.message.len().max(longest_accepted);
@@ -57,13 +58,13 @@ fn limits_are_met_exactly() {
 
 #[test]
 fn the_ordinary_mix_has_the_size_of_ordinary_messages() {
-    const CASES: usize = 100_000;
+    const CASES: usize = 40_000;
     let (mut octets, mut rows, mut walked, mut accepted) = (0, 0, 0, 0);
     for case in Generator::new(53).take(CASES) {
         octets += case.message.len();
-        if let Ok(walk) = walk(case.kind, &case.message) {
+        if let Ok(met) = DOCUMENT.rows(case.kind, &case.message) {
             walked += 1;
-            rows += walk.rows.len();
+            rows += met.len();
             accepted += usize::from(judged(case.kind, &case.message).0.accepted());
         }
     }

@@ -1,7 +1,7 @@
 //! The listings and the types against document 01's own sentences.
 
-use second::listings;
-use second::types::{least, of, Cover, Least, TYPES};
+use second::rules::{Cover, Least, Listed};
+use second::DOCUMENT;
 
 /// Messages, level and the pairs as document 01 writes them.
 const SENTENCES: &[(&[u8], &str, &str)] = &[
@@ -76,28 +76,41 @@ fn sentences_of(message: u8) -> Vec<String> {
 fn listings_are_those_of_the_document() {
     let messages = [1, 2, 32, 37, 66, 67, 68, 69, 97];
     let expected = messages.map(sentences_of).concat();
-    let lines = listings::lines().into_iter().map(|line| line.to_string());
+    let lines = DOCUMENT.lines().into_iter().map(|line| line.to_string());
     assert_eq!(lines.collect::<Vec<_>>(), expected);
 }
 
 #[test]
 fn messages_1_and_2_alone_have_no_teid() {
-    for message in &listings::MESSAGES {
+    for message in &DOCUMENT.messages {
         assert_eq!(message.teid, message.typ > 2);
     }
 }
 
 #[test]
 fn only_groups_list_something_inside() {
-    for line in listings::lines() {
-        let group = of(line.listed.typ).group;
+    for line in DOCUMENT.lines() {
+        let group = DOCUMENT.facts(line.listed.typ).group;
         assert_eq!(group, !line.listed.inside.is_empty(), "{line}");
+    }
+}
+
+/// A level has one bit for each position of its listing.
+#[test]
+fn no_listing_has_more_lines_than_a_level_has_bits() {
+    fn longest(listing: &[Listed]) -> usize {
+        let inside = listing.iter().map(|listed| longest(&listed.inside));
+        inside.max().unwrap_or(0).max(listing.len())
+    }
+    for message in &DOCUMENT.messages {
+        assert!(longest(&message.body) <= 32);
     }
 }
 
 #[test]
 fn no_level_lists_a_pair_twice() {
-    let mut pairs = listings::lines()
+    let mut pairs = DOCUMENT
+        .lines()
         .iter()
         .map(|line| {
             format!(
@@ -114,7 +127,7 @@ fn no_level_lists_a_pair_twice() {
 
 #[test]
 fn types_are_those_of_the_document() {
-    let least_lengths: [(u16, &[usize]); 7] = [
+    let least_lengths: [(usize, &[usize]); 7] = [
         (0, &[93, 180]),
         (2, &[2, 95, 114, 255]),
         (3, &[83]),
@@ -123,26 +136,26 @@ fn types_are_those_of_the_document() {
         (21, &[81]),
         (22, &[80]),
     ];
-    for (typ, facts) in TYPES.iter().enumerate() {
+    for (typ, facts) in DOCUMENT.types.iter().enumerate() {
         let named = least_lengths.iter().find(|(_, types)| types.contains(&typ));
-        let least = match typ {
-            79 => Least::PdnType,
-            87 => Least::AddressFlags,
-            _ => Least::Fixed(named.map_or(1, |&(least, _)| least)),
-        };
+        if typ != 79 && typ != 87 {
+            let least = Least::Fixed(named.map_or(1, |&(least, _)| least));
+            assert_eq!(facts.least, least, "{typ}");
+        }
         let cover = match typ {
             1 | 75 | 76 | 78 | 86 | 255 => Cover::Whole,
             79 => Cover::Rest,
             _ => Cover::Nothing,
         };
-        assert_eq!(facts.least, least, "{typ}");
         assert_eq!(facts.group, typ == 93 || typ == 180, "{typ}");
-        assert_eq!(facts.cover, cover, "{typ}");
+        let by_standing = [cover, Cover::Whole, Cover::Whole, cover];
+        assert_eq!(facts.cover, by_standing, "{typ}");
     }
 }
 
 #[test]
 fn first_octet_sets_the_least_length_of_79_and_87() {
+    let least = |typ: u8, value: &[u8]| DOCUMENT.facts(typ).least(value);
     for first in 0..=255 {
         let addresses = [5, 21, 9, 25][usize::from(first >> 6)];
         assert_eq!(least(87, &[first]), addresses, "{first}");

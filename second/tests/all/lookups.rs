@@ -2,7 +2,7 @@
 
 use crate::support::{message, octets, table};
 use second::generate::{hostile_tables, Ask, Generator, Lookup};
-use second::{desk, desk_found, mask, plain, plain_found};
+use second::{desk, desk_found, mask, plain, plain_found, DOCUMENT};
 
 const G: &str = "48 42 00 11 00 00 00 01 00 00 02 00 5D 00 05 00 49 00 01 00 05";
 
@@ -160,10 +160,10 @@ fn by_the_rule(lookup: &Lookup) -> Option<&[u8]> {
 fn random_lookups_follow_the_rule() {
     let mut generator = Generator::new(21);
     let mut found = 0;
-    for _ in 0..50_000 {
+    for _ in 0..20_000 {
         let lookup = generator.lookup();
         let expected = by_the_rule(&lookup);
-        assert_eq!(lookup.answer(), expected, "{lookup:?}");
+        assert_eq!(lookup.answer(&DOCUMENT), expected, "{lookup:?}");
         found += usize::from(expected.is_some());
         let (part, yes) = match lookup.ask {
             Ask::Plain { typ, inst } => (
@@ -180,7 +180,7 @@ fn random_lookups_follow_the_rule() {
             (expected.unwrap_or_default(), expected.is_some())
         );
     }
-    assert!((10_000..45_000).contains(&found));
+    assert!((4_000..18_000).contains(&found));
 }
 
 #[test]
@@ -196,7 +196,7 @@ fn hostile_tables_are_met_with_every_ask() {
                 copy: message.clone(),
                 table: table.clone(),
             };
-            assert_eq!(lookup.answer(), by_the_rule(&lookup), "{lookup:?}");
+            assert_eq!(lookup.answer(&DOCUMENT), by_the_rule(&lookup), "{lookup:?}");
         }
     }
 }

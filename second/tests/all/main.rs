@@ -1,5 +1,6 @@
 //! Tests of the second program, one module for each part of document 01.
 
+mod changes;
 mod coverage;
 mod demands;
 mod examples;
@@ -7,6 +8,7 @@ mod generator;
 mod listings;
 mod lookups;
 mod octets;
+mod pinned;
 mod program;
 mod readings;
 mod samples;

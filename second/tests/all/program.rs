@@ -6,7 +6,7 @@ use std::process::{Command, Output, Stdio};
 
 use crate::support::{message, octets};
 use second::generate::{Ask, Generator, Lookup};
-use second::{lines, mask, program};
+use second::{lines, mask, DOCUMENT};
 
 const G: &str = "48 42 00 11 00 00 00 01 00 00 02 00 5D 00 05 00 49 00 01 00 05";
 const G_ACCEPTED: &str = "accept 2 2\n0 93 0 16 5 0\n1 73 0 20 1 0\n";
@@ -17,22 +17,25 @@ fn input(kind: u8, message: &[u8]) -> Vec<u8> {
 
 #[test]
 fn no_input_reads_as_kind_0() {
-    assert_eq!(program(&[]), "refuse 1 0 0 0 0\n");
+    assert_eq!(DOCUMENT.program(&[]), "refuse 1 0 0 0 0\n");
 }
 
 #[test]
 fn one_octet_is_a_kind_with_an_empty_message() {
-    assert_eq!(program(&[0]), "refuse 1 0 0 0 0\n");
-    assert_eq!(program(&[1]), "refuse 2 0 0 0 0\n");
-    assert_eq!(program(&[255]), "refuse 1 0 0 0 0\n");
+    assert_eq!(DOCUMENT.program(&[0]), "refuse 1 0 0 0 0\n");
+    assert_eq!(DOCUMENT.program(&[1]), "refuse 2 0 0 0 0\n");
+    assert_eq!(DOCUMENT.program(&[255]), "refuse 1 0 0 0 0\n");
 }
 
 #[test]
 fn refusals_are_one_line() {
     let cut = &octets(G)[..20];
-    assert_eq!(program(&input(1, cut)), "refuse 6 67 0 0 0\n");
+    assert_eq!(DOCUMENT.program(&input(1, cut)), "refuse 6 67 0 0 0\n");
     let empty = message(66, "5D 00 00 00");
-    assert_eq!(program(&input(2, &empty)), "refuse 12 70 12 73 0\n");
+    assert_eq!(
+        DOCUMENT.program(&input(2, &empty)),
+        "refuse 12 70 12 73 0\n"
+    );
 }
 
 #[test]
@@ -41,10 +44,10 @@ fn the_first_4097_octets_count() {
     longest.resize(4096, 0x55);
     longest[2..4].copy_from_slice(&[0x0F, 0xFC]);
     let accepted = "accept 2 2\n0 3 0 12 1 0\n0 255 0 17 4079 0\n";
-    assert_eq!(program(&input(1, &longest)), accepted);
+    assert_eq!(DOCUMENT.program(&input(1, &longest)), accepted);
     for length in [4097, 4098, 70_000] {
         longest.resize(length, 0);
-        assert_eq!(program(&input(1, &longest)), "refuse 2 0 0 0 0\n");
+        assert_eq!(DOCUMENT.program(&input(1, &longest)), "refuse 2 0 0 0 0\n");
     }
 }
 
@@ -52,13 +55,16 @@ fn the_first_4097_octets_count() {
 fn the_table_has_room_for_1022_rows() {
     let mut body = octets("03 00 04 00 00 00 00 00");
     body.extend(octets("C8 00 00 00").repeat(1020));
-    let text = program(&input(1, &message(1, &lines::hex(&body))));
+    let text = DOCUMENT.program(&input(1, &message(1, &lines::hex(&body))));
     assert!(text.starts_with("accept 1021 1\n0 3 0 12 4 0\n0 200 0 20 0 1\n"));
     assert_eq!(text.lines().count(), 1022);
     let all_empty = octets("03 00 00 00").repeat(1022);
     let message = message(1, &lines::hex(&all_empty));
     assert_eq!(message.len(), 4096);
-    assert_eq!(program(&input(1, &message)), "refuse 11 67 8 3 0\n");
+    assert_eq!(
+        DOCUMENT.program(&input(1, &message)),
+        "refuse 11 67 8 3 0\n"
+    );
 }
 
 fn second(arguments: &[&str], input: &[u8]) -> Output {
@@ -141,8 +147,8 @@ fn lookup_lines_are_read_as_written() {
 
 #[test]
 fn generate_command() {
-    let cases = Generator::new(5).take(300);
-    let expected = cases.map(|case| lines::case_line(&case) + "\n");
+    let cases = Generator::new(5).inputs(300);
+    let expected = cases.iter().map(|case| lines::case_line(case) + "\n");
     let output = printed(second(&["generate", "5", "300"], &[]));
     assert_eq!(output, expected.collect::<String>());
 }
@@ -151,7 +157,7 @@ fn generate_command() {
 fn generate_command_with_a_folder() {
     let folder = concat!(env!("CARGO_TARGET_TMPDIR"), "/generated");
     printed(second(&["generate", "5", "300", folder], &[]));
-    for (number, case) in Generator::new(5).take(300).enumerate() {
+    for (number, case) in Generator::new(5).inputs(300).iter().enumerate() {
         let file = fs::read(format!("{folder}/{number:06}.in")).ok();
         let kind = u8::try_from(case.kind).ok();
         assert_eq!(file, kind.map(|kind| input(kind, &case.message)));
@@ -162,19 +168,20 @@ fn generate_command_with_a_folder() {
 #[test]
 fn listings_and_types_commands() {
     let listings = printed(second(&["listings"], &[]));
-    assert!(
-        listings.starts_with("1 body 3/0 M - 123\n1 body 152/0 - - 123\n1 body 255/any - * 123\n")
-    );
+    let echo = "1 T 0\n1 body 3/0 M - 123\n1 body 152/0 - - 123\n1 body 255/any - * 123\n2 T 0\n";
+    assert!(listings.starts_with(echo));
+    assert!(listings.contains("\n97 T 1\n"));
     assert!(listings.contains("\n66 body 180/1 - - 3\n"));
     assert!(listings.contains("\n67 180/0 71/0 - * 123\n"));
     let types = printed(second(&["types"], &[]));
     assert_eq!(types.lines().count(), 256);
     for line in [
-        "0 1 - -",
-        "1 1 - whole",
-        "79 first - rest",
-        "93 0 group -",
-        "255 2 - whole",
+        "0 1 - - whole whole -",
+        "1 1 - whole whole whole whole",
+        "79 [1,5,18,22,1,1,1,1] - rest whole whole rest",
+        "87 [5,21,9,25] - - whole whole -",
+        "93 0 group - whole whole -",
+        "255 2 - whole whole whole whole",
     ] {
         assert!(types.lines().any(|other| other == line), "{line}");
     }

@@ -1,7 +1,7 @@
 //! Rules of document 01 beyond its examples, each worked out by hand.
 
 use crate::support::{five, message, octets, rows, table, verdict};
-use second::{covered, judge, mask, Verdict};
+use second::{judge, mask, Verdict, DOCUMENT};
 
 const CONTEXT: &str = "5D 00 05 00 49 00 01 00 05";
 const OVERLOAD: &str = "B7 00 04 00 00 00 00 01 B6 00 01 00 0A 9C 00 01 00 05";
@@ -285,7 +285,7 @@ fn a_small_table_comes_between_9_and_11() {
 
 /// The places of the covered octets.
 fn covered_places(kind: u32, message: &[u8]) -> Vec<usize> {
-    let covered = covered(kind, message);
+    let covered = DOCUMENT.covered(kind, message);
     let places = covered.iter().enumerate();
     places.filter(|(_, &yes)| yes).map(|(at, _)| at).collect()
 }

@@ -1,7 +1,6 @@
 //! What several tests share.
 
-use second::table::{used, HEADER, MOST_ROWS, PER_ROW};
-use second::{judge, lines, Verdict};
+use second::{judge, lines, Verdict, DOCUMENT};
 
 /// A number that no table of a short message holds.
 pub const UNTOUCHED: u16 = 0xAAAA;
@@ -24,7 +23,7 @@ pub fn verdict(numbers: [u16; 5]) -> Verdict {
 /// The verdict and the table's used numbers, judged with the largest table.
 /// A refusal must leave the table as it was.
 pub fn judged(kind: u32, message: &[u8]) -> (Verdict, Vec<u16>) {
-    let mut table = vec![UNTOUCHED; used(MOST_ROWS)];
+    let mut table = vec![UNTOUCHED; DOCUMENT.used(1022)];
     let verdict = judge(kind, message, &mut table);
     let written = if verdict.accepted() {
         usize::from(table[3])
@@ -49,8 +48,8 @@ pub fn table(kind: u32, message: &[u8]) -> Vec<u16> {
 }
 
 /// The rows of a table of the judge.
-pub fn rows(table: &[u16]) -> &[[u16; PER_ROW]] {
-    let (rows, rest) = table[HEADER..].as_chunks();
+pub fn rows(table: &[u16]) -> &[[u16; 6]] {
+    let (rows, rest) = table[4..].as_chunks();
     assert!(rest.is_empty());
     rows
 }

@@ -3,6 +3,7 @@
 use second::generate::Generator;
 use std::hint::black_box;
 use std::time::Instant;
+use trials::Call;
 
 const TURNS: usize = 60;
 const LARGEST: usize = 4_096;
@@ -12,8 +13,6 @@ struct Buffers {
     copy: Vec<u8>,
     five: Vec<u8>,
 }
-
-type Call = fn(u32, &[u8], &mut [u8], &mut [u8]) -> u16;
 
 fn pass(messages: &[(u32, Vec<u8>)], judge: Call, mask: Call, buffers: &mut Buffers) -> f64 {
     let began = Instant::now();
@@ -40,7 +39,7 @@ fn echo(count: usize, length: usize) -> Vec<u8> {
     let mut message = vec![0x40, 1, 0, 0, 0, 0, 1, 0, 3, 0, 1, 0, 7];
     for _ in 0..count {
         message.extend([200, (length / 256) as u8, (length % 256) as u8, 0]);
-        message.extend(std::iter::repeat(0xA5).take(length));
+        message.extend(std::iter::repeat_n(0xA5, length));
     }
     let length = message.len() - 4;
     message[2] = (length / 256) as u8;

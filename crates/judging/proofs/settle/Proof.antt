@@ -1,6 +1,6 @@
 -- `settle` writes the table on acceptance alone. Assumes nothing.
 use mathlib.Core.Path.{refl, _∙_}
-use Rattle.judging.proofs.Deciding.{refusing}
+use Rattle.answers.proofs.Refusing.{refusing}
 use borrow.Author.Needs.{needs}
 use Rattle.judging.proofs.settle.Statement.{statement}
 use Rattle.judging.proofs.settle.Tie as tie

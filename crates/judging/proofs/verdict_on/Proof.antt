@@ -13,11 +13,11 @@ mul-if2 c = search needs
 add-if2 : tie.Need-add-if2
 add-if2 c = search needs
 
-no-room-requires : tie.Need-no-room-requires
-no-room-requires c κs = search needs
+refuse-requires : tie.Need-refuse-requires
+refuse-requires c κs = search needs
 
 returns-2 : tie.Need-returns-2
-returns-2 c = let s = c .before .before .before .before .before .before in given-full (s .args .r) (s .args .room) (c .before .before .before .if1 .left) (c .no-room .result) (c .before .if2 .taken) (c .no-room .ensures)
+returns-2 c = let s = c .before .before .before .before .before .before in given-full (s .args .r) (s .args .room) (c .before .before .before .if1 .left) (c .refuse .result) (c .before .if2 .taken) (c .refuse .ensures)
 
 first-of-requires : tie.Need-first-of-requires
 first-of-requires c κs = search needs
@@ -28,4 +28,4 @@ returns-3 c = let s = c .before .before .before .before .before .before in given
 pub verdict-on-spec : {M : Type 1} → statement M
 verdict-on-spec =
     tie.close
-    (tie.spec returns mul-if2 add-if2 no-room-requires returns-2 first-of-requires returns-3)
+    (tie.spec returns mul-if2 add-if2 refuse-requires returns-2 first-of-requires returns-3)

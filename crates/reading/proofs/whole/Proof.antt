@@ -1,5 +1,5 @@
 -- `whole` unpacks what the walk counted. Assumes nothing.
-use Rattle.reading.specs.Held.{wholeReading}
+use Rattle.reading.specs.Scan.{wholeReading}
 use borrow.Author.Needs.{needs}
 use Rattle.reading.proofs.whole.Statement.{statement}
 use Rattle.reading.proofs.whole.Tie as tie
@@ -7,15 +7,15 @@ use Rattle.reading.proofs.whole.Tie as tie
 accept-requires : tie.Need-accept-requires
 accept-requires c κs = search needs
 
-refuse-at-requires : tie.Need-refuse-at-requires
-refuse-at-requires c κs = search needs
+unpack-requires : tie.Need-unpack-requires
+unpack-requires c κs = search needs
 
-refuse-at-requires-2 : tie.Need-refuse-at-requires-2
-refuse-at-requires-2 c κs = search needs
+unpack-requires-2 : tie.Need-unpack-requires-2
+unpack-requires-2 c κs = search needs
 
 returns : tie.Need-returns
 unfolding wholeReading
-returns c = rw (c .before .before .accept .ensures, c .before .refuse-at .ensures, c .refuse-at2 .ensures)
+returns c = rw (c .before .before .accept .ensures, c .before .unpack .ensures, c .unpack2 .ensures)
 
 pub whole-spec : {M : Type 1} → statement M
-whole-spec = tie.close (tie.spec accept-requires refuse-at-requires refuse-at-requires-2 returns)
+whole-spec = tie.close (tie.spec accept-requires unpack-requires unpack-requires-2 returns)

@@ -1,6 +1,6 @@
 -- `store` stores the five numbers, and the table on acceptance alone. Assumes nothing.
 use mathlib.Core.Path.{refl, _∙_}
-use Rattle.judging.proofs.Deciding.{refusing, accepting}
+use Rattle.answers.proofs.Refusing.{refusing, accepting}
 use borrow.Author.Needs.{needs}
 use Rattle.wokshimmer.proofs.store.Statement.{statement}
 use Rattle.wokshimmer.proofs.store.Tie as tie

@@ -1,6 +1,5 @@
 -- `copy` puts octet by octet: what is left to put, put where it stands, is the whole text put at the start. Assumes nothing.
-use mathlib.Core.Path.{sym, ap, _∙_}
-use Prim.Native.Nat.{_-_, _≤_}
+use Prim.Native.Nat.{_-_}
 use native.Mathlib.Omega.{arith}
 use lib.ListN.{length}
 use Rattle.wording.proofs.Puts.{Copying, copy-start, copy-next, copy-end, same-room}

@@ -10,14 +10,11 @@ returns : tie.Need-returns
 unfolding digitAt
 returns c = rw (lt-ltb _ _ (c .if1 .taken)) (puts-none _ _)
 
-div-put : tie.Need-div-put
-div-put c = search needs
+div-figure : tie.Need-div-figure
+div-figure c = search needs
 
-add-put : tie.Need-add-put
-add-put c = search needs
-
-cast-put : tie.Need-cast-put
-cast-put c = search needs
+figure-requires : tie.Need-figure-requires
+figure-requires c κs = search needs
 
 put-requires : tie.Need-put-requires
 put-requires c κs = search needs
@@ -27,8 +24,7 @@ same-length c = search needs
 
 returns-2 : tie.Need-returns-2
 unfolding digitAt
-returns-2 c = rw (le-ltb _ _ (c .before .before .before .before .if1 .left)) (c .before .before .put .ensures)
+returns-2 c = rw (le-ltb _ _ (c .before .before .before .before .before .if1 .left), ← c .before .before .before .before .figure .ensures) (c .before .before .put .ensures)
 
 pub digit-spec : {M : Type 1} → statement M
-digit-spec =
-    tie.close (tie.spec returns div-put add-put cast-put put-requires same-length returns-2)
+digit-spec = tie.close (tie.spec returns div-figure figure-requires put-requires same-length returns-2)

@@ -17,11 +17,8 @@ digit-requires-3 c κs = search needs
 digit-requires-4 : tie.Need-digit-requires-4
 digit-requires-4 c κs = search needs
 
-add-put : tie.Need-add-put
-add-put c = search needs
-
-cast-put : tie.Need-cast-put
-cast-put c = search needs
+figure-requires : tie.Need-figure-requires
+figure-requires c κs = search needs
 
 put-requires : tie.Need-put-requires
 put-requires c κs = search needs
@@ -31,7 +28,7 @@ same-length c = search needs
 
 returns : tie.Need-returns
 unfolding decimal
-returns c = then-puts (c .before .before .before .before .before .before .before .before .before .before .before .before .before .before .before .before .before .before .digit .ensures) (then-puts (c .before .before .before .before .before .before .before .before .before .before .before .before .before .before .digit2 .ensures) (then-puts (c .before .before .before .before .before .before .before .before .before .before .digit3 .ensures) (then-puts (c .before .before .before .before .before .before .digit4 .ensures) (c .before .before .put .ensures))))
+returns c = rw (← c .before .before .before .before .figure .ensures) (then-puts (c .before .before .before .before .before .before .before .before .before .before .before .before .before .before .before .before .before .before .before .digit .ensures) (then-puts (c .before .before .before .before .before .before .before .before .before .before .before .before .before .before .before .digit2 .ensures) (then-puts (c .before .before .before .before .before .before .before .before .before .before .before .digit3 .ensures) (then-puts (c .before .before .before .before .before .before .before .digit4 .ensures) (c .before .before .put .ensures)))))
 
 pub number-spec : {M : Type 1} → statement M
 number-spec =
@@ -41,8 +38,7 @@ number-spec =
     digit-requires-2
     digit-requires-3
     digit-requires-4
-    add-put
-    cast-put
+    figure-requires
     put-requires
     same-length
     returns)

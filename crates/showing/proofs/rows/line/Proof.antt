@@ -1,34 +1,58 @@
 -- `line` puts the numbers, what the desk is answered, and the line's end. Assumes nothing.
-use native.Mathlib.Omega.{arith}
 use Rattle.showing.proofs.Tables.{line-put}
-use Rattle.wording.proofs.Puts.{same-room}
 use borrow.Author.Needs.{needs}
 use Rattle.showing.proofs.rows.line.Statement.{statement}
 use Rattle.showing.proofs.rows.line.Tie as tie
 
-cell-requires : tie.Need-cell-requires
-cell-requires c κs = (c .before .before .before .before .before .pre, omega arith)
+row-run-requires : tie.Need-row-run-requires
+row-run-requires c κs = search needs
 
-cell-requires-2 : tie.Need-cell-requires-2
-cell-requires-2 c κs = (c .before .before .before .before .before .before .pre, omega arith)
+array-read-parent : tie.Need-array-read-parent
+array-read-parent c = search needs
+
+array-read-typ : tie.Need-array-read-typ
+array-read-typ c = search needs
+
+array-read-stand : tie.Need-array-read-stand
+array-read-stand c = search needs
 
 desk-requires : tie.Need-desk-requires
-desk-requires c κs = tt
+desk-requires c κs = search needs
 
-numbers-requires : tie.Need-numbers-requires
-numbers-requires c κs = search needs
+slice-aggregate-say : tie.Need-slice-aggregate-say
+slice-aggregate-say c = search needs
+
+say-requires : tie.Need-say-requires
+say-requires c κs = search needs
+
+slice-aggregate-ending : tie.Need-slice-aggregate-ending
+slice-aggregate-ending c = search needs
 
 ending-requires : tie.Need-ending-requires
-ending-requires c κs = tt
+ending-requires c κs = search needs
 
 put-requires : tie.Need-put-requires
-put-requires c κs = tt
-
-returns : tie.Need-returns
-returns c = let s = c .before .before .before .before .before .before .before .before .before .before .before .before .before .before .before .before .before .before .before .before in line-put (s .args .names .now) (s .args .table .now) (s .args .row) (s .args .right) (s .args .message) (s .args .copy) (c .before .before .before .before .before .before .before .before .before .before .before .before .desk .result) (c .before .before .before .before .before .before .before .before .before .before .before .before .desk .ensures) (c .before .before .before .before .before .before .before .before .before .before .before .before .before .before .cell .ensures) (c .before .before .before .before .before .before .before .before .before .before .before .before .before .cell2 .ensures) (c .before .before .before .before .before .before .before .before .before .before .numbers .ensures) (c .before .before .before .before .before .before .ending .ensures) (c .before .before .put .ensures)
+put-requires c κs = search needs
 
 same-length : tie.Need-same-length
-same-length c = same-room (returns c)
+same-length c = search needs
+
+returns : tie.Need-returns
+returns c = let a = c .before .before .before .before .before .before .before .before .before .before .before .before .before .before .before .before .before .before .before .before .before .args in line-put (a .names .now) (a .table .now) (a .row) (a .right) (a .message) (a .copy) (c .before .before .before .before .before .before .before .before .before .before .before .before .before .before .desk .result) (c .before .before .before .before .before .before .before .before .before .before .before .before .before .before .desk .ensures) (c .before .before .before .before .before .before .before .before .before .before .before .before .before .before .before .row-run .ensures) (c .before .before .before .before .before .before .before .before .before .before .before .say .ensures) (c .before .before .before .before .before .before .ending .ensures) (c .before .before .put .ensures)
 
 pub line-spec : {M : Type 1} → statement M
-line-spec = tie.close (tie.spec cell-requires cell-requires-2 desk-requires numbers-requires ending-requires put-requires same-length returns)
+line-spec =
+    tie.close
+    (tie.spec
+    row-run-requires
+    array-read-parent
+    array-read-typ
+    array-read-stand
+    desk-requires
+    slice-aggregate-say
+    say-requires
+    slice-aggregate-ending
+    ending-requires
+    put-requires
+    same-length
+    returns)

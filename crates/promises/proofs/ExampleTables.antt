@@ -1,0 +1,42 @@
+-- `IsTable` holds of the examples' own tables, so it is not empty: of D, F with its repeat, G with its group, K with its unexpected group. And J, which is
+-- cut inside a group, has no table at all, and is cut at 16. Assumes nothing.
+use mathlib.Core.Path.{_≡_, refl, sym, ap}
+use mathlib.Core.List.{List, [], _++_}
+use Prim.Native.Nat.{ℕ}
+use lib.ListN.{drop}
+use Rattle.rules.specs.Listings.{book}
+use Rattle.rules.specs.Verdicts.{accepted}
+use Rattle.rules.specs.Examples.{judging, Outcome, examples, sevens, messageD, headF, firstF, secondF, messageG, messageK, head, line}
+use Rattle.tables.specs.IsTable.{IsTable}
+use Rattle.verdicts.specs.IsCut.{IsCut}
+use Rattle.promises.proofs.Examples.{example, asked, messageJ}
+use Rattle.promises.proofs.Main.{judged-table, nine-exactly, nine-at-exactly}
+
+-- the table that an accepted message leaves in the sevens
+tabled : (k : ℕ) (m left : List ℕ) → asked judging k m ≡ record { verdict = accepted; left = left } → IsTable book k m left
+tabled k m left e =
+    judged-table {lent = sevens} {v = accepted} (record { answers = sym (ap (λ (x : Outcome). x .verdict) e); table-left = sym (ap (λ (x : Outcome). x .left) e) }) refl
+
+pub table-d : IsTable book 1 messageD (head 1 1 4 10 (line 0 3 0 12 1 0 []) ++ drop 10 sevens)
+unfolding examples
+table-d = tabled 1 messageD (head 1 1 4 10 (line 0 3 0 12 1 0 []) ++ drop 10 sevens) (example 3)
+
+pub table-f : IsTable book 1 (headF ++ firstF ++ secondF) (head 2 1 4 16 (line 0 3 0 12 1 0 (line 0 3 0 17 0 2 [])) ++ drop 16 sevens)
+unfolding examples
+table-f = tabled 1 (headF ++ firstF ++ secondF) (head 2 1 4 16 (line 0 3 0 12 1 0 (line 0 3 0 17 0 2 [])) ++ drop 16 sevens) (example 6)
+
+pub table-g : IsTable book 1 messageG (head 2 2 4 16 (line 0 93 0 16 5 0 (line 1 73 0 20 1 0 [])) ++ drop 16 sevens)
+unfolding examples
+table-g = tabled 1 messageG (head 2 2 4 16 (line 0 93 0 16 5 0 (line 1 73 0 20 1 0 [])) ++ drop 16 sevens) (example 8)
+
+pub table-k : IsTable book 1 messageK (head 3 2 4 22 (line 0 93 0 16 5 0 (line 1 73 0 20 1 0 (line 0 180 1 25 0 1 []))) ++ drop 22 sevens)
+unfolding examples
+table-k = tabled 1 messageK (head 3 2 4 22 (line 0 93 0 16 5 0 (line 1 73 0 20 1 0 (line 0 180 1 25 0 1 []))) ++ drop 22 sevens) (example 12)
+
+pub none-j : (t : List ℕ) → IsTable book 1 messageJ t → ⊥
+unfolding examples
+none-j = nine-exactly 1 messageJ 23 .0 (ap (λ (x : Outcome). x .verdict .code) (example 11)) .1
+
+pub cut-j : (t : List ℕ) × IsCut book 1 messageJ t 16
+unfolding examples
+cut-j = nine-at-exactly 1 messageJ 23 16 .0 (ap (λ (x : Outcome). x .verdict) (example 11)) .1

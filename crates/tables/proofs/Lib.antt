@@ -1,0 +1,16 @@
+pub mod Tests
+pub mod Places
+pub mod Placed
+pub mod Rowed
+pub mod Messages
+pub mod Levels
+pub mod Elements
+pub mod Standings
+pub mod Trees
+pub mod Tiling
+pub mod Marks
+pub mod Faithful
+pub mod Filling
+pub mod Stood
+pub mod RightRows
+pub mod Soundness

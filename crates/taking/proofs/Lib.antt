@@ -1,0 +1,5 @@
+pub mod Messages
+pub mod Heads
+pub mod Taking
+pub mod Lent
+pub mod Lacking

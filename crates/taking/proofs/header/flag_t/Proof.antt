@@ -1,0 +1,16 @@
+-- `header::flag_t` meets its contract: it is the reading of the first octet. Assumes nothing.
+use mathlib.Core.Path.{refl}
+use borrow.Author.Needs.{needs}
+use Rattle.rules.specs.Framing.{flagT}
+use Rattle.taking.proofs.header.flag_t.Statement.{statement}
+use Rattle.taking.proofs.header.flag_t.Tie as tie
+
+shared-slice-read-result : tie.Need-shared-slice-read-result
+shared-slice-read-result c = search needs
+
+returns : tie.Need-returns
+unfolding flagT
+returns c = refl
+
+pub flag-t-spec : {M : Type 1} → statement M
+flag-t-spec = tie.close (tie.spec shared-slice-read-result returns)

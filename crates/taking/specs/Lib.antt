@@ -1,0 +1,4 @@
+pub mod Lent
+pub mod Lacks
+pub mod Held
+pub mod Header

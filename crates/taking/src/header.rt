@@ -1,0 +1,141 @@
+// The header of a message: checks 1 to 8, where the elements begin, and the level that they are read by.
+ghost use mathlib.Core.Path.{_≡_};
+ghost use mathlib.Core.Bool.{Bool·beq};
+ghost use Prim.Native.Nat.{_<_, _≤_};
+ghost use lib.ListN.{length, getD};
+ghost use Rattle.rules.specs.Framing.{version, flagP, flagT};
+ghost use Rattle.rules.specs.Types.{among};
+ghost use Rattle.rules.specs.Listings.{book, noMessage};
+ghost use Rattle.rules.specs.Verdicts.{first, openingChecks};
+ghost use Rattle.taking.specs.Header.{Opens, Sought, Typed, Field, Start, Listed, Body};
+use crate::wide;
+use rules::Verdict;
+
+// The message types, which of them have T = 1, and the level of each body.
+const TYPES: [u8; 9] = [1, 2, 32, 37, 66, 67, 68, 69, 97];
+
+const TEIDS: [bool; 9] = [false, false, true, true, true, true, true, true, true];
+
+const BODIES: [u8; 9] = [1, 1, 2, 5, 6, 9, 12, 13, 14];
+
+pub(crate) fn known(kind: u32) -> bool
+    ensures { λ r. ⌜ r ≡ among kind (book .kinds) ⌝ }
+{
+    if kind == 1 {
+        return true;
+    }
+    if kind == 2 {
+        return true;
+    }
+    kind == 3
+}
+
+pub(crate) fn version(head: &[u8]) -> u8
+    requires { ⌜ 0 < length (now head) ⌝ }
+    ensures { λ r. ⌜ r ≡ version (now (head .entry)) ⌝ }
+{
+    head[0] / 32
+}
+
+pub(crate) fn flag_p(head: &[u8]) -> bool
+    requires { ⌜ 0 < length (now head) ⌝ }
+    ensures { λ r. ⌜ r ≡ flagP (now (head .entry)) ⌝ }
+{
+    head[0] / 16 % 2 == 1
+}
+
+pub(crate) fn flag_t(head: &[u8]) -> bool
+    requires { ⌜ 0 < length (now head) ⌝ }
+    ensures { λ r. ⌜ r ≡ flagT (now (head .entry)) ⌝ }
+{
+    head[0] / 8 % 2 == 1
+}
+
+pub(crate) fn length_field(head: &[u8]) -> usize
+    requires { ⌜ 4 ≤ length (now head) ⌝ }
+    ensures { λ r. ⌜ Field (now (head .entry)) r ⌝ }
+{
+    wide(head[2]) * 256 + wide(head[3])
+}
+
+// Where the elements begin.
+pub fn start(head: &[u8]) -> usize
+    requires { ⌜ 0 < length (now head) ⌝ }
+    ensures { λ r. ⌜ Start (now (head .entry)) r ⌝ }
+{
+    if flag_t(head) {
+        return 12;
+    }
+    8
+}
+
+// The number of the message type among those listed, or how many there are.
+pub(crate) fn seek(typ: u8) -> usize
+    ensures { λ r. ⌜ Sought typ r ⌝ }
+{
+    let types = TYPES;
+    let mut n = 0;
+    while n < 9 {
+        if types[n] == typ {
+            return n;
+        }
+        n += 1;
+    }
+    n
+}
+
+// Does T stand as the message type of number `n` has it?
+pub(crate) fn right_t(head: &[u8], n: usize) -> bool
+    requires { ⌜ Typed (now head) n ⌝ }
+    ensures { λ r. ⌜ r ≡ Bool·beq (flagT (now (head .entry))) (getD (book .messages) n noMessage .teid) ⌝ }
+{
+    if flag_t(head) {
+        return TEIDS[n];
+    }
+    !TEIDS[n]
+}
+
+// The level of a message's body.
+pub fn body(head: &[u8]) -> u8
+    requires { ⌜ Listed (now head) ⌝ }
+    ensures { λ r. ⌜ Body (now (head .entry)) r ⌝ }
+{
+    let n = seek(head[1]);
+    BODIES[n]
+}
+
+// Checks 1 to 8, in order, of a message of `n` octets that begins with `head`.
+pub fn opening(kind: u32, head: &[u8], n: usize) -> Verdict
+    requires { ⌜ Opens (now head) n ⌝ }
+    ensures { λ r. ⌜ r ≡ first (openingChecks book kind (now (head .entry)) n) ⌝ }
+{
+    if !known(kind) {
+        return answers::refuse(1, 0);
+    }
+    if n == 0 {
+        return answers::refuse(2, 0);
+    }
+    if 4096 < n {
+        return answers::refuse(2, 0);
+    }
+    if version(head) != 2 {
+        return answers::refuse(3, 0);
+    }
+    if n < start(head) {
+        return answers::refuse(4, 0);
+    }
+    if flag_p(head) {
+        return answers::refuse(5, 0);
+    }
+    if length_field(head) + 4 != n {
+        return answers::refuse(6, 67);
+    }
+    let i = seek(head[1]);
+    if 9 <= i {
+        return answers::refuse(7, 0);
+    }
+    if !right_t(head, i) {
+        return answers::refuse(8, 0);
+    }
+    answers::accept()
+}

@@ -1,0 +1,43 @@
+// What one element does at its level, what a level's end finds, and the checks of a header: all of the rules that the reading of a message
+// follows, whatever way its octets come. These are no entry points: a function here may ask for what its callers show.
+ghost use mathlib.Core.Path.{_≡_};
+ghost use Rattle.taking.specs.Lent.{Octet};
+ghost use Rattle.taking.specs.Held.{noCounts};
+
+pub mod element;
+pub mod header;
+pub mod level;
+pub mod line;
+
+// What is counted as elements are taken: rows, kept rows, the first mandatory short element and the first level that lacks a pair, each a
+// place with a pair as one number, or 0 for none.
+pub struct Counts {
+    pub rows: usize,
+    pub kept: usize,
+    pub short: usize,
+    pub gap: usize,
+}
+
+// The counts after an element, and the level of its inside if it is entered, else 0.
+pub struct Taken {
+    pub counts: Counts,
+    pub inner: u8,
+}
+
+// An octet as a number to count with.
+pub fn wide(x: u8) -> usize
+    ensures { λ r. ⌜ Octet x r ⌝ }
+{
+    x as usize
+}
+
+pub fn no_counts() -> Counts
+    ensures { λ r. ⌜ r ≡ noCounts ⌝ }
+{
+    Counts {
+        rows: 0,
+        kept: 0,
+        short: 0,
+        gap: 0,
+    }
+}

@@ -1,0 +1,273 @@
+-- Demand 1: each number is given exactly in its own case, in words, and comes with what it names. Assumes nothing.
+--     own-words    over any list of checks and conditions          judge-words, mask-words   of the judge and the masker
+--     judge-says, mask-says                                        what each number comes with
+use mathlib.Core.Path.{_≡_, refl, sym, _∙_}
+use mathlib.Core.Logic.{_⊎_, inl, inr, _↔_, _≢_}
+use mathlib.Core.Bool.{Bool, true, false, not, _||_, Bool·beq}
+use mathlib.Core.List.{List, [], _∷_, _++_}
+use Prim.Native.Nat.{ℕ, zero, suc, _+_, _-_, _<_}
+use native.Mathlib.Omega.{arith}
+use native.Mathlib.Decide.{decLt}
+use borrow.Author.Tests.{eqb-true, eqb-false, eq-eqb, ne-eqb, ltb-true, lt-ltb}
+use lib.Dec.{eqb, ltb}
+use lib.ListN.{length, drop, getD}
+use Rattle.rules.specs.Sizes.{largestMessage, used}
+use Rattle.rules.specs.Framing.{version, flagT, messageType, lengthField, headerLength}
+use Rattle.rules.specs.Types.{among}
+use Rattle.rules.specs.Listings.{Book, messageOf, isMessage}
+use Rattle.rules.specs.Standing.{Item}
+use Rattle.rules.specs.Taking.{Out, cut, whole, taken, bodyLevel}
+use Rattle.rules.specs.Sound.{sound}
+use Rattle.rules.specs.Table.{tableOf}
+use Rattle.rules.specs.Verdicts.{accepted, refused, refusedAt, invalidLength, check, refuses, first, cutCheck, headerChecks, framingChecks, items, shortVerdict, lackVerdict, tableChecks, copyCheck, judgeChecks, maskChecks, judgeVerdict, maskVerdict, judgeNumbers, maskNumbers}
+use Rattle.rules.specs.declared.Verdict.{Verdict}
+use Rattle.rules.proofs.Mets.{cut-met, met-cut}
+use Rattle.rules.proofs.Checks.{AllPass, all-pass, OwnCase}
+use Rattle.rules.proofs.Header.{framed, judge-case, mask-case}
+use Rattle.verdicts.specs.Conditions.{CutIn, numbers, framingConditions, tableConditions, copyConditions, judgeConditions, maskConditions, OwnWords, framingWords, tableWords, copyWords, judgeWords, maskWords}
+use Rattle.verdicts.specs.Missing.{ShortRow, Lacks}
+use Rattle.tables.proofs.Tests.{clash, true-or}
+use Rattle.tables.proofs.Rowed.{own-begins}
+use Rattle.tables.proofs.Messages.{walked-of}
+use Rattle.verdicts.proofs.Missing.{missing-iff, missing-first, short-iff, short-first}
+
+-- where none of the checks before it applies, a check applies exactly where its condition holds
+abbrev pub Step : List Verdict → List (Type 0) → ℕ → Type 0
+Step vs cs j = ((i : ℕ) → i < j → refuses (getD vs i accepted) ≡ false) → (refuses (getD vs j accepted) ≡ true) ↔ getD cs j ⊥
+
+module _ (vs : List Verdict) (cs : List (Type 0)) where
+  -- none of the conditions before n holds, so none of the checks applies
+  pub none-applies : (n : ℕ) → ((j : ℕ) → j < n → Step vs cs j) → ((i : ℕ) → i < n → getD cs i ⊥ → ⊥) → (i : ℕ) → i < n → refuses (getD vs i accepted) ≡ false
+  none-applies zero steps off i l = absurd (omega arith)
+  none-applies (suc n) steps off i l =
+      let before : (i : ℕ) → i < n → refuses (getD vs i accepted) ≡ false
+      = none-applies n (λ j h. steps j (omega arith)) (λ j h. off j (omega arith)) in
+      pick (decLt i n) before
+    where
+      pick : Dec (i < n) → ((x : ℕ) → x < n → refuses (getD vs x accepted) ≡ false) → refuses (getD vs i accepted) ≡ false
+      pick (yes h) before = before i h
+      pick (no h) before = here (true-or (refuses (getD vs i accepted)))
+        where
+          here : (refuses (getD vs i accepted) ≡ true) ⊎ (refuses (getD vs i accepted) ≡ false) → refuses (getD vs i accepted) ≡ false
+          here (inl x) = absurd (off i l (steps i l (λ j z. before j (omega arith)) .0 x))
+          here (inr x) = x
+
+  own-words : (j : ℕ) → ((i : ℕ) → i < suc j → Step vs cs i) → OwnCase vs j ↔ OwnWords cs j
+  own-words j steps = (
+    λ o. record {
+      holds = steps j (omega arith) (o .none-before) .0 (o .applies);
+      none-before = λ i l c. clash (refuses (getD vs i accepted)) (steps i (omega arith) (λ x y. o .none-before x (omega arith)) .1 c) (o .none-before i l);
+    },
+    λ w. let off = none-applies j (λ i l. steps i (omega arith)) (w .none-before) in
+        record { applies = steps j (omega arith) off .1 (w .holds); none-before = off },
+  )
+
+-- ---- the conditions
+
+-- a check applies exactly where its test holds
+on : (a : Bool) (v : Verdict) → refuses v ≡ true → (refuses (check a v) ≡ true) ↔ (a ≡ true)
+unfolding check
+on true v e = (λ x. refl, λ x. e)
+on false v e = (λ x. x, λ x. x)
+
+not-is : (a : Bool) → (not a ≡ true) ↔ (a ≡ false)
+not-is true = (λ x. sym x, λ x. sym x)
+not-is false = (λ x. refl, λ x. refl)
+
+not-eq : (x y : ℕ) → (not (eqb x y) ≡ true) ↔ (x ≢ y)
+not-eq x y = (λ e. eqb-false x y (not-is (eqb x y) .0 e), λ f. not-is (eqb x y) .1 (ne-eqb x y f))
+
+or-is : (a c : Bool) → (a || c ≡ true) ↔ ((a ≡ true) ⊎ (c ≡ true))
+or-is true c = (λ e. inl refl, λ e. refl)
+or-is false c = (λ e. inr e, back)
+  where
+    back : (false ≡ true) ⊎ (c ≡ true) → c ≡ true
+    back (inl x) = let z : _≡_ {A = ℕ} 0 1 = cc in absurd (omega arith)
+    back (inr x) = x
+
+chain : {A B C : Type 0} → A ↔ B → B ↔ C → A ↔ C
+chain f g = (λ a. g .0 (f .0 a), λ c. f .1 (g .1 c))
+
+map-or : {A B C D : Type 0} → A ↔ B → C ↔ D → (A ⊎ C) ↔ (B ⊎ D)
+map-or {A} {B} {C} {D} f g = (to, from)
+  where
+    to : A ⊎ C → B ⊎ D
+    to (inl x) = inl (f .0 x)
+    to (inr x) = inr (g .0 x)
+
+    from : B ⊎ D → A ⊎ C
+    from (inl x) = inl (f .1 x)
+    from (inr x) = inr (g .1 x)
+
+lt-is : (x y : ℕ) → (ltb x y ≡ true) ↔ (x < y)
+lt-is x y = (ltb-true x y, lt-ltb x y)
+
+eq-is : (x y : ℕ) → (eqb x y ≡ true) ↔ (x ≡ y)
+eq-is x y = (eqb-true x y, eq-eqb x y)
+
+differ : (a c : Bool) → (not (Bool·beq a c) ≡ true) ↔ (a ≢ c)
+differ true true = (λ e. let z : _≡_ {A = ℕ} 0 1 = cc in absurd (omega arith), λ f. absurd (f refl))
+differ true false = (λ e x. let z : _≡_ {A = ℕ} 0 1 = cc in omega arith, λ f. refl)
+differ false true = (λ e x. let z : _≡_ {A = ℕ} 0 1 = cc in omega arith, λ f. refl)
+differ false false = (λ e. let z : _≡_ {A = ℕ} 0 1 = cc in absurd (omega arith), λ f. absurd (f refl))
+
+module _ (b : Book) (k : ℕ) (m : List ℕ) where
+  cut-case : (o : Out (List Item)) → taken b k m ≡ o → (refuses (cutCheck o) ≡ true) ↔ ((q : ℕ) × CutIn b k m q)
+  unfolding taken
+  cut-case (cut q is) e = (λ x. (q, cut-met b k (bodyLevel b m) (headerLength m) (drop (headerLength m) m) q is e), λ x. refl)
+  cut-case (whole is) e = (
+    λ x. let z : _≡_ {A = ℕ} 0 1 = cc in absurd (omega arith),
+    λ x. let r = met-cut b k (bodyLevel b m) (headerLength m) (drop (headerLength m) m) (x .1) in
+        let c : whole is ≡ cut (x .0) (r .0) = sym e ∙ r .1 in let z : _≡_ {A = ℕ} 0 1 = cc in absurd (omega arith),
+  )
+
+  framing-step : (vs : List Verdict) (cs : List (Type 0)) (j : ℕ) → j < 9 → Step (framingChecks b k m ++ vs) (framingConditions b k m ++ cs) j
+  unfolding framingChecks headerChecks
+  framing-step vs cs zero l p = chain (on _ (refused 1 0) refl) (not-is (among k (b .kinds)))
+  framing-step vs cs (suc zero) l p =
+      chain (on _ (refused 2 0) refl) (chain (or-is (eqb (length m) 0) (ltb largestMessage (length m))) (map-or (eq-is (length m) 0) (lt-is largestMessage (length m))))
+  framing-step vs cs (suc (suc zero)) l p = chain (on _ (refused 3 0) refl) (not-eq (version m) 2)
+  framing-step vs cs (suc (suc (suc zero))) l p = chain (on _ (refused 4 0) refl) (lt-is (length m) (headerLength m))
+  framing-step vs cs (suc (suc (suc (suc zero)))) l p = on _ (refused 5 0) refl
+  framing-step vs cs (suc (suc (suc (suc (suc zero))))) l p = chain (on _ (refused 6 67) refl) (not-eq (lengthField m + 4) (length m))
+  framing-step vs cs (suc (suc (suc (suc (suc (suc zero)))))) l p = chain (on _ (refused 7 0) refl) (not-is (isMessage b (messageType m)))
+  framing-step vs cs (suc (suc (suc (suc (suc (suc (suc zero))))))) l p = chain (on _ (refused 8 0) refl) (differ (flagT m) (messageOf b (messageType m) .teid))
+  framing-step vs cs (suc (suc (suc (suc (suc (suc (suc (suc zero)))))))) l p = cut-case (taken b k m) refl
+  framing-step vs cs (suc (suc (suc (suc (suc (suc (suc (suc (suc j))))))))) l p = absurd (omega arith)
+
+  -- ---- the judge and the masker
+
+  -- checks 1 to 9 pass where none of the first nine applies
+  nine-pass : (vs : List Verdict) → ((i : ℕ) → i < 9 → refuses (getD (framingChecks b k m ++ vs) i accepted) ≡ false) → refuses (first (framingChecks b k m)) ≡ false
+  unfolding framingChecks headerChecks AllPass
+  nine-pass vs p =
+      all-pass (framingChecks b k m) .1
+      (p 0 (omega arith), (p 1 (omega arith), (p 2 (omega arith), (p 3 (omega arith), (p 4 (omega arith), (p 5 (omega arith), (p 6 (omega arith), (p 7 (omega arith), (p 8 (omega arith), tt)))))))))
+
+module _ (b : Book) (fine : sound b ≡ true) (k : ℕ) (m : List ℕ) where
+  -- a message that passes 1 to 9: its elements, and what the laws about its rows ask
+  short-words : refuses (first (framingChecks b k m)) ≡ false
+      → (refuses (shortVerdict (items b k m)) ≡ true) ↔ ((r : ℕ) × ShortRow b k (bodyLevel b m) (numbers b k m) r)
+  short-words e =
+      let f = framed b k m e in let es = f .1 .0 in let w = f .1 .1 in
+      rw w (short-iff b fine k m (tableOf es) es (own-begins es) (walked-of b k m es w) (f .0 .listed))
+
+  lack-words : refuses (first (framingChecks b k m)) ≡ false
+      → (refuses (lackVerdict b k (bodyLevel b m) (items b k m)) ≡ true) ↔ ((p : ℕ) × (j : ℕ) × Lacks b k (bodyLevel b m) (numbers b k m) p j)
+  lack-words e =
+      let f = framed b k m e in let es = f .1 .0 in let w = f .1 .1 in
+      rw w (missing-iff b fine k m (tableOf es) es (own-begins es) (walked-of b k m es w) (f .0 .listed))
+
+  last-step : (room i : ℕ) → i < 3 → Step (judgeChecks b k m room) (judgeConditions b k m room) (suc (suc (suc (suc (suc (suc (suc (suc (suc i)))))))))
+  unfolding judgeChecks framingChecks headerChecks
+  last-step room zero l p = chain (on _ (refused 10 0) refl) (lt-is room (used (length (items b k m))))
+  last-step room (suc zero) l p = short-words (nine-pass b k m (tableChecks b k m room) (λ i h. p i (omega arith)))
+  last-step room (suc (suc zero)) l p = lack-words (nine-pass b k m (tableChecks b k m room) (λ i h. p i (omega arith)))
+  last-step room (suc (suc (suc i))) l p = absurd (omega arith)
+
+  pub judge-step : (room j : ℕ) → j < 12 → Step (judgeChecks b k m room) (judgeConditions b k m room) j
+  unfolding judgeChecks
+  judge-step room j l = go (decLt j 9)
+    where
+      go : Dec (j < 9) → Step (judgeChecks b k m room) (judgeConditions b k m room) j
+      go (yes h) = framing-step b k m (tableChecks b k m room) (tableConditions b k m room) j h
+      go (no h) = let z : j ≡ suc (suc (suc (suc (suc (suc (suc (suc (suc (j - 9))))))))) = omega arith in rw z (last-step room (j - 9) (omega arith))
+
+  pub mask-step : (room j : ℕ) → j < 10 → Step (maskChecks b k m room) (maskConditions b k m room) j
+  unfolding maskChecks framingChecks headerChecks
+  mask-step room j l = go (decLt j 9)
+    where
+      go : Dec (j < 9) → Step (maskChecks b k m room) (maskConditions b k m room) j
+      go (yes h) = framing-step b k m (copyCheck b k m room ∷ []) (copyConditions b k m room) j h
+      go (no h) = let z : j ≡ 9 = omega arith in rw z (λ p. chain (on _ (refused 13 0) refl) (lt-is room (length m)))
+
+  pub judge-words : (room j : ℕ) → j < 12 → (judgeVerdict b k m room .code ≡ getD judgeNumbers j 0) ↔ OwnWords (judgeConditions b k m room) j
+  judge-words room j l = chain (judge-case b k m room j l) (own-words (judgeChecks b k m room) (judgeConditions b k m room) j (λ i h. judge-step room i (omega arith)))
+
+  pub mask-words : (room j : ℕ) → j < 10 → (maskVerdict b k m room .code ≡ getD maskNumbers j 0) ↔ OwnWords (maskConditions b k m room) j
+  mask-words room j l = chain (mask-case b k m room j l) (own-words (maskChecks b k m room) (maskConditions b k m room) j (λ i h. mask-step room i (omega arith)))
+
+module _ (b : Book) (k : ℕ) (m : List ℕ) (room : ℕ) where
+  pub judge-count : length (judgeChecks b k m room) ≡ 12
+  unfolding judgeChecks framingChecks headerChecks
+  judge-count = refl
+
+  pub mask-count : length (maskChecks b k m room) ≡ 10
+  unfolding maskChecks framingChecks headerChecks
+  mask-count = refl
+
+-- ---- what each number comes with
+
+-- the check that is given says the verdict
+own-says : (vs : List Verdict) (j : ℕ) → j < length vs → OwnCase vs j → first vs ≡ getD vs j accepted
+unfolding first
+own-says [] j l o = absurd (omega arith)
+own-says (v ∷ vs) zero l o = rw (o .applies)
+own-says (v ∷ vs) (suc j) l o =
+    rw (o .none-before 0 (omega arith)) (own-says vs j (omega arith) (record { applies = o .applies; none-before = λ i h. o .none-before (suc i) (omega arith) }))
+
+-- a check that applies says its own verdict
+says-own : (a : Bool) (v : Verdict) → refuses (check a v) ≡ true → check a v ≡ v
+unfolding check
+says-own true v e = refl
+says-own false v e = let z : _≡_ {A = ℕ} 0 1 = cc in absurd (omega arith)
+
+abbrev Says : List Verdict → List (Verdict → Type 0) → ℕ → Type 0
+Says vs ws j = OwnCase vs j → getD ws j (λ v. ⊥) (getD vs j accepted)
+
+module _ (b : Book) (k : ℕ) (m : List ℕ) where
+  cut-says : (o : Out (List Item)) → taken b k m ≡ o → refuses (cutCheck o) ≡ true → (q : ℕ) × CutIn b k m q × (cutCheck o ≡ refusedAt 9 invalidLength q 0 0)
+  unfolding taken
+  cut-says (cut q is) e x = (q, cut-met b k (bodyLevel b m) (headerLength m) (drop (headerLength m) m) q is e, refl)
+  cut-says (whole is) e x = let z : _≡_ {A = ℕ} 0 1 = cc in absurd (omega arith)
+
+  framing-says : (vs : List Verdict) (ws : List (Verdict → Type 0)) (j : ℕ) → j < 9 → Says (framingChecks b k m ++ vs) (framingWords b k m ++ ws) j
+  unfolding framingChecks headerChecks
+  framing-says vs ws zero l o = says-own _ (refused 1 0) (o .applies)
+  framing-says vs ws (suc zero) l o = says-own _ (refused 2 0) (o .applies)
+  framing-says vs ws (suc (suc zero)) l o = says-own _ (refused 3 0) (o .applies)
+  framing-says vs ws (suc (suc (suc zero))) l o = says-own _ (refused 4 0) (o .applies)
+  framing-says vs ws (suc (suc (suc (suc zero)))) l o = says-own _ (refused 5 0) (o .applies)
+  framing-says vs ws (suc (suc (suc (suc (suc zero))))) l o = says-own _ (refused 6 67) (o .applies)
+  framing-says vs ws (suc (suc (suc (suc (suc (suc zero)))))) l o = says-own _ (refused 7 0) (o .applies)
+  framing-says vs ws (suc (suc (suc (suc (suc (suc (suc zero))))))) l o = says-own _ (refused 8 0) (o .applies)
+  framing-says vs ws (suc (suc (suc (suc (suc (suc (suc (suc zero)))))))) l o = cut-says (taken b k m) refl (o .applies)
+  framing-says vs ws (suc (suc (suc (suc (suc (suc (suc (suc (suc j))))))))) l o = absurd (omega arith)
+
+module _ (b : Book) (fine : sound b ≡ true) (k : ℕ) (m : List ℕ) (room : ℕ) where
+  last-says : (i : ℕ) → i < 3 → Says (judgeChecks b k m room) (judgeWords b k m) (suc (suc (suc (suc (suc (suc (suc (suc (suc i)))))))))
+  unfolding judgeChecks framingChecks headerChecks
+  last-says zero l o = says-own _ (refused 10 0) (o .applies)
+  last-says (suc zero) l o =
+      let f = framed b k m (nine-pass b k m (tableChecks b k m room) (λ i h. o .none-before i (omega arith))) in let es = f .1 .0 in let w = f .1 .1 in
+      rw w (short-first b fine k m (tableOf es) es (own-begins es) (walked-of b k m es w) (f .0 .listed) (rw w at (o .applies)))
+  last-says (suc (suc zero)) l o =
+      let f = framed b k m (nine-pass b k m (tableChecks b k m room) (λ i h. o .none-before i (omega arith))) in let es = f .1 .0 in let w = f .1 .1 in
+      rw w (missing-first b fine k m (tableOf es) es (own-begins es) (walked-of b k m es w) (f .0 .listed) (rw w at (o .applies)))
+  last-says (suc (suc (suc i))) l o = absurd (omega arith)
+
+  judge-saying : (j : ℕ) → j < 12 → Says (judgeChecks b k m room) (judgeWords b k m) j
+  unfolding judgeChecks
+  judge-saying j l = go (decLt j 9)
+    where
+      go : Dec (j < 9) → Says (judgeChecks b k m room) (judgeWords b k m) j
+      go (yes h) = framing-says b k m (tableChecks b k m room) (tableWords b k m) j h
+      go (no h) = let z : j ≡ suc (suc (suc (suc (suc (suc (suc (suc (suc (j - 9))))))))) = omega arith in rw z (last-says (j - 9) (omega arith))
+
+  mask-saying : (j : ℕ) → j < 10 → Says (maskChecks b k m room) (maskWords b k m) j
+  unfolding maskChecks framingChecks headerChecks
+  mask-saying j l = go (decLt j 9)
+    where
+      go : Dec (j < 9) → Says (maskChecks b k m room) (maskWords b k m) j
+      go (yes h) = framing-says b k m (copyCheck b k m room ∷ []) (copyWords b k m) j h
+      go (no h) = let z : j ≡ 9 = omega arith in rw z (λ o. says-own _ (refused 13 0) (o .applies))
+
+  pub judge-says : (j : ℕ) → j < 12 → judgeVerdict b k m room .code ≡ getD judgeNumbers j 0 → getD (judgeWords b k m) j (λ v. ⊥) (judgeVerdict b k m room)
+  judge-says j l e =
+      let o = judge-case b k m room j l .0 e in
+      rw (own-says (judgeChecks b k m room) j (omega (arith, judge-count b k m room)) o) (judge-saying j l o)
+
+  pub mask-says : (j : ℕ) → j < 10 → maskVerdict b k m room .code ≡ getD maskNumbers j 0 → getD (maskWords b k m) j (λ v. ⊥) (maskVerdict b k m room)
+  mask-says j l e =
+      let o = mask-case b k m room j l .0 e in
+      rw (own-says (maskChecks b k m room) j (omega (arith, mask-count b k m room)) o) (mask-saying j l o)

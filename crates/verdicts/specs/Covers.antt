@@ -1,0 +1,24 @@
+-- Which value octets a row covers, by the row's own numbers. Assumes nothing.
+use mathlib.Core.Path.{_≡_}
+use mathlib.Core.Logic.{_⊎_, _≢_}
+use mathlib.Core.Bool.{true}
+use mathlib.Core.List.{List}
+use Prim.Native.Nat.{ℕ, _≤_, _<_}
+use Rattle.rules.specs.Types.{coversWhole, coversRest}
+use Rattle.rules.specs.Standing.{kept, unexpected, repeated, short}
+use Rattle.rules.specs.Values.{rowType, rowPlace, rowStanding}
+use Rattle.tables.specs.Words.{rows, rowEnd}
+
+-- octet j is a value octet of row r
+pub record ValueOver (t : List ℕ) (j r : ℕ) : Type 0 where
+  pub there : r < rows t
+  pub begins : rowPlace t r ≤ j
+  pub ends : j < rowEnd t r
+
+pub data Covers (t : List ℕ) (j r : ℕ) : Type 0 where
+  -- a row that is set aside, unexpected or repeated, covers its whole value
+  aside : (rowStanding t r ≡ unexpected) ⊎ (rowStanding t r ≡ repeated) → Covers t j r
+  -- and so does one of a type that tells of the subscriber
+  secret : coversWhole (rowType t r) ≡ true → Covers t j r
+  -- one of a type whose first octet the rules read covers the others, if it is kept or short
+  rest : coversRest (rowType t r) ≡ true → (rowStanding t r ≡ kept) ⊎ (rowStanding t r ≡ short) → j ≢ rowPlace t r → Covers t j r

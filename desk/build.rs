@@ -1,0 +1,13 @@
+// Links the two libraries that `rt staticlib` makes: the card's, and the desk's page.
+use std::path::Path;
+
+fn main() {
+    let folder = Path::new(env!("CARGO_MANIFEST_DIR")).join("../target/staticlib");
+    println!("cargo:rustc-link-search=native={}", folder.display());
+    for name in ["wokshimmer", "wokdesk"] {
+        let library = folder.join(format!("lib{name}.a"));
+        assert!(library.exists(), "run `rt staticlib {name}` first: {} is not there", library.display());
+        println!("cargo:rustc-link-lib=static={name}");
+        println!("cargo:rerun-if-changed={}", library.display());
+    }
+}

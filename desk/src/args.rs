@@ -1,0 +1,146 @@
+//! Arguments.
+
+use crate::help;
+use std::ffi::OsString;
+
+#[derive(Clone, Copy, PartialEq, Debug)]
+pub enum Command {
+    Show,
+    Judge,
+    Mask,
+}
+
+#[derive(Clone, Copy, PartialEq, Debug)]
+pub enum Form {
+    Page,
+    Json,
+    Csv,
+}
+
+#[derive(Debug)]
+pub struct Args {
+    pub command: Command,
+    pub kind: u32,
+    pub kind_name: &'static str,
+    pub files: Vec<OsString>,
+    pub right: bool,
+    pub form: Form,
+    pub hex: bool,
+    pub out: Option<OsString>,
+    pub port: u16,
+    pub message: Option<usize>,
+}
+
+/// What is to be done instead.
+pub enum Instead {
+    Say(String),
+    Refuse(String),
+}
+
+fn refuse<T>(why: impl Into<String>) -> Result<T, Instead> {
+    Err(Instead::Refuse(why.into()))
+}
+
+fn kind_of(word: &str) -> Option<(u32, &'static str)> {
+    match word.to_ascii_uppercase().as_str() {
+        "S11" => Some((1, "S11")),
+        "S4" => Some((2, "S4")),
+        "S5/S8" | "S5S8" | "S5" | "S8" => Some((3, "S5/S8")),
+        _ => None,
+    }
+}
+
+fn help_on(command: Command) -> &'static str {
+    match command {
+        Command::Show => help::SHOW,
+        Command::Judge => help::JUDGE,
+        Command::Mask => help::MASK,
+    }
+}
+
+pub fn version() -> String {
+    format!(
+        "wok {}\nrules: docs/RULES.md of Wokshimmer, after 3GPP TS 29.274 (GTPv2-C); verdicts, tables, copies and pages are proved\n",
+        env!("CARGO_PKG_VERSION")
+    )
+}
+
+pub fn parse(words: Vec<OsString>) -> Result<Args, Instead> {
+    let mut words = words.into_iter();
+    let first = words.next().unwrap_or_default();
+    let command = match first.to_str().unwrap_or("") {
+        "show" => Command::Show,
+        "judge" => Command::Judge,
+        "mask" => Command::Mask,
+        "-h" | "--help" | "help" => return Err(Instead::Say(help::ALL.into())),
+        "--version" => return Err(Instead::Say(version())),
+        "" => return refuse("no command"),
+        other => return refuse(format!("no command '{other}'")),
+    };
+    let mut args =
+        Args { command, kind: 0, kind_name: "", files: vec![], right: false, form: Form::Page, hex: false, out: None, port: 2123, message: None };
+    let (mut plain, mut operands) = (false, vec![]);
+    while let Some(word) = words.next() {
+        let text = word.to_str().unwrap_or("").to_owned();
+        if plain || text == "-" || !text.starts_with('-') && !word.as_encoded_bytes().starts_with(b"-") {
+            operands.push(word);
+        } else if text == "--" {
+            plain = true;
+        } else if text == "--help" || text == "-h" {
+            return Err(Instead::Say(help_on(command).into()));
+        } else {
+            option(&mut args, &text, &mut words)?;
+        }
+    }
+    operated(args, operands)
+}
+
+/// Takes an option, and its value if it has one.
+fn option(args: &mut Args, text: &str, words: &mut dyn Iterator<Item = OsString>) -> Result<(), Instead> {
+    let (name, given) = match text.split_once('=') {
+        Some((name, value)) => (name, Some(OsString::from(value))),
+        None => (text, None),
+    };
+    let takes = ["-o", "--port", "--message"].contains(&name);
+    if given.is_some() && !takes {
+        return refuse(format!("{name} takes no value"));
+    }
+    let mut value = || given.clone().or_else(|| words.next()).ok_or(Instead::Refuse(format!("{name} wants a value")));
+    match (args.command, name) {
+        (Command::Show, "--subscriber") => args.right = true,
+        (Command::Show, "--json") => args.form = Form::Json,
+        (Command::Show, "--csv") => args.form = Form::Csv,
+        (Command::Mask, "--hex") => args.hex = true,
+        (Command::Mask, "-o") => args.out = Some(value()?),
+        (_, "--port") => args.port = number(name, value()?)?,
+        (_, "--message") => args.message = Some(number(name, value()?)?),
+        _ => return refuse(format!("no option '{name}' here")),
+    }
+    Ok(())
+}
+
+fn number<T: std::str::FromStr + PartialEq + From<u8>>(name: &str, value: OsString) -> Result<T, Instead> {
+    match value.to_str().and_then(|v| v.parse().ok()) {
+        Some(n) if n != T::from(0) => Ok(n),
+        _ => refuse(format!("{name} wants a number from 1 on")),
+    }
+}
+
+fn operated(mut args: Args, operands: Vec<OsString>) -> Result<Args, Instead> {
+    let mut operands = operands.into_iter();
+    let Some(kind) = operands.next() else { return refuse("no KIND: S11, S4 or S5/S8") };
+    let Some((number, name)) = kind.to_str().and_then(kind_of) else {
+        return refuse(format!("no kind '{}': S11, S4 or S5/S8", kind.to_string_lossy()));
+    };
+    (args.kind, args.kind_name, args.files) = (number, name, operands.collect());
+    if args.files.is_empty() {
+        return refuse("no FILE");
+    }
+    if args.files.iter().filter(|f| *f == "-").count() > 1 {
+        return refuse("- more than once");
+    }
+    if args.command == Command::Mask && args.files.len() > 1 && !args.hex {
+        return refuse("mask takes one FILE, or several with --hex");
+    }
+    Ok(args)
+}

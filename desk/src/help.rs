@@ -1,0 +1,49 @@
+//! What `--help` says.
+
+pub const ALL: &str = "\
+usage: wok show KIND FILE...    the message in words: verdict, rows, names and values
+       wok judge KIND FILE...   the verdict, and the rows of an accepted message, in numbers
+       wok mask KIND FILE...    the masked copy
+       wok COMMAND --help       more on one of them
+       wok --version            the tool and the rules
+
+KIND is S11, S4 or S5/S8 (S5 and S8 will do). FILE is - for standard input, and holds one of these, which is told by its content:
+  a capture (pcap, pcapng; needs libpcap): the messages to and from UDP port 2123, or another --port N
+  hex text as pasted from a trace, or from od -tx1, xxd, hexdump -C, tcpdump, tshark; several messages stand apart by a blank line
+  one message in raw octets
+--message N takes the N-th message alone. Names that begin with - stand after --.
+
+Exit status: 0 accepted or masked, 1 refused (or one of several was), 2 bad use, or a file that can't be read or written.
+";
+
+pub const SHOW: &str = "\
+usage: wok show [--subscriber] [--json | --csv] [--message N] [--port N] KIND FILE...
+
+The message in words. Of a capture a line each: number, time, peers, name, verdict; --message N shows the page of one.
+Values of the subscriber are shown as zeros, and of a message that checks 1 to 9 refuse nothing is shown but its length.
+  --subscriber   with the subscriber's values: for those who may see them
+  --json         an object a message, one a line: verdict, header, rows; values in hex, null where covered,
+                 and null for a group, whose rows have its value; 'covered' counts octets
+  --csv          a line a row
+";
+
+pub const JUDGE: &str = "\
+usage: wok judge [--message N] [--port N] KIND FILE...
+
+In numbers. 'accept ROWS KEPT' and a line a row: parent, type, instance, value place, value length, standing;
+or 'refuse CODE CAUSE PLACE TYPE INSTANCE'.
+";
+
+pub const MASK: &str = "\
+usage: wok mask [--hex] [-o OUT] [--message N] [--port N] KIND FILE
+
+A copy in which all that the rules cover is zero, for people outside; to standard output, or to OUT.
+A capture gives a capture: the same packets with masked messages, times and addresses kept. Packets with no message, fragments, and
+messages that cannot be masked are left out; the latter are listed with the reason, and the exit status is 1.
+  --hex   as hex text that text2pcap reads
+
+Made zero: IMSI, MSISDN, MEI, user location, PCO and private extensions whole; the address in PDN Address Allocation; every element that is
+not listed or repeated.
+NOT made zero: APN, TEIDs, addresses of gateways (F-TEID, and the packets' own), traffic filters, time zone, serving network, charging
+identities, trace references, lengths, the sequence number.
+";

@@ -1,0 +1,101 @@
+//! The proved library through its C exports: all that is said of a message comes from here.
+
+use std::os::raw::c_uint;
+
+extern "C" {
+    fn wok_judge(kind: c_uint, message: *const u8, len: usize, table: *mut u8, table_len: usize, five: *mut u8, five_len: usize) -> u16;
+    fn wok_mask(kind: c_uint, message: *const u8, len: usize, copy: *mut u8, copy_len: usize, five: *mut u8, five_len: usize) -> u16;
+    fn wok_show(kind: c_uint, right: u8, message: *const u8, len: usize, page: *mut u8, page_len: usize) -> usize;
+}
+
+/// A table with room for 1,022 rows.
+const TABLE: usize = 12272;
+/// A page on any message fits.
+const PAGE: usize = 163840;
+
+/// A row of the table: parent, type, instance, value place, value length, standing.
+pub type Row = [u16; 6];
+
+/// The five numbers: code, cause, place, type, instance.
+pub type Five = [u16; 5];
+
+/// The judge's answer; rows and kept rows of an accepted message.
+pub struct Judged {
+    pub five: Five,
+    pub rows: Vec<Row>,
+    pub kept: u16,
+}
+
+/// Buffers that are lent to the library again and again.
+pub struct Library {
+    kind: c_uint,
+    table: Vec<u8>,
+    page: Vec<u8>,
+}
+
+fn number(octets: &[u8], i: usize) -> u16 {
+    u16::from_be_bytes([octets[2 * i], octets[2 * i + 1]])
+}
+
+fn numbers(octets: &[u8; 10]) -> Five {
+    std::array::from_fn(|i| number(octets, i))
+}
+
+impl Library {
+    pub fn new(kind: u32) -> Library {
+        Library { kind, table: vec![0; TABLE], page: vec![0; PAGE] }
+    }
+
+    pub fn judge(&mut self, message: &[u8]) -> Judged {
+        let mut five = [0u8; 10];
+        // SAFETY: each pointer is valid for the length beside it, and the buffers overlap nothing.
+        unsafe { wok_judge(self.kind, message.as_ptr(), message.len(), self.table.as_mut_ptr(), TABLE, five.as_mut_ptr(), 10) };
+        let five = numbers(&five);
+        if five[0] != 0 {
+            return Judged { five, rows: vec![], kept: 0 };
+        }
+        let table = &self.table;
+        let row = |i: usize| std::array::from_fn(|j| number(table, 4 + 6 * i + j));
+        Judged { five, rows: (0..number(table, 0) as usize).map(row).collect(), kept: number(table, 1) }
+    }
+
+    /// The masked copy over `copy`, which is as long as the message; or the five numbers of the refusal.
+    pub fn mask(&self, message: &[u8], copy: &mut [u8]) -> Result<(), Five> {
+        let mut five = [0u8; 10];
+        // SAFETY: as above.
+        let code = unsafe { wok_mask(self.kind, message.as_ptr(), message.len(), copy.as_mut_ptr(), copy.len(), five.as_mut_ptr(), 10) };
+        if code == 0 {
+            Ok(())
+        } else {
+            Err(numbers(&five))
+        }
+    }
+
+    /// The message in words, with the subscriber's values for a viewer with the right.
+    pub fn show(&mut self, right: bool, message: &[u8]) -> &str {
+        // SAFETY: as above.
+        let n = unsafe { wok_show(self.kind, right as u8, message.as_ptr(), message.len(), self.page.as_mut_ptr(), PAGE) };
+        std::str::from_utf8(&self.page[..n.min(PAGE)]).unwrap_or("")
+    }
+
+    /// How many octets of a value, from its end, are covered; found by asking the masker about a copy with other octets there.
+    pub fn covered(&self, copy: &[u8], place: usize, length: usize) -> usize {
+        let end = place + length;
+        let hidden = |from: usize, to: usize| {
+            let mut other = copy.to_vec();
+            other[from..to].fill(0xff);
+            let mut masked = vec![0; other.len()];
+            self.mask(&other, &mut masked).is_ok() && masked[from..to].iter().all(|&o| o == 0)
+        };
+        if length == 0 || end > copy.len() {
+            return 0;
+        }
+        if copy[place] == 0 && hidden(place, place + 1) {
+            return length;
+        }
+        if length > 1 && copy[place + 1..end].iter().all(|&o| o == 0) && hidden(place + 1, end) {
+            return length - 1;
+        }
+        0
+    }
+}

@@ -1,0 +1,65 @@
+//! The figures of document 01. A change request changes these files first, and
+//! the rest of the program only where it brings a new shape of rule.
+
+mod listings;
+mod types;
+
+use std::cmp::Ordering;
+use std::sync::LazyLock;
+
+use crate::rules::{Bits, Check, Checks, Lookups, Order, Rules, Sizes, CODES};
+
+pub static DOCUMENT: LazyLock<Rules> = LazyLock::new(|| Rules {
+    kinds: 1..=3,
+    messages: listings::messages(),
+    types: types::types(),
+    bits: Bits {
+        version: 2,
+        piggyback: 0x10,
+        teid: 0x08,
+        instance: 0x0F,
+    },
+    sizes: sizes(),
+    checks: checks(),
+    lookups: Lookups {
+        parent: 0,
+        standing: 0,
+        lengths: vec![Ordering::Equal],
+    },
+});
+
+fn sizes() -> Sizes {
+    Sizes {
+        longest: 4096,
+        header: [8, 12],
+        body: [8, 12],
+        uncounted: 4,
+        remnant: 1..=3,
+        table_header: 4,
+        row: 6,
+        five: 10,
+        most_rows: 1022,
+    }
+}
+
+/// Cause 67 of TS 29.274: invalid length.
+const INVALID_LENGTH: u16 = 67;
+/// Cause 70 of TS 29.274: mandatory element missing.
+const MANDATORY_MISSING: u16 = 70;
+
+fn checks() -> Checks {
+    use Check::*;
+    let framing = [
+        Kind, Size, Version, Header, Piggyback, Length, Type, Teid, Framing,
+    ];
+    let mut causes = [0; CODES];
+    for check in [Length, Framing, Short] {
+        causes[check as usize] = INVALID_LENGTH;
+    }
+    causes[Missing as usize] = MANDATORY_MISSING;
+    Checks {
+        judge: Order::new(&[&framing[..], &[TableRoom, Short, Missing]].concat()),
+        mask: Order::new(&[&framing[..], &[CopyRoom]].concat()),
+        causes,
+    }
+}

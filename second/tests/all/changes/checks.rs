@@ -1,0 +1,63 @@
+//! Changes of the checks' order, of causes and of what the lookups want.
+
+use std::cmp::Ordering;
+
+use super::{Changes, Shown, ON_ALL};
+use second::rules::{Check, Order, STANDINGS};
+use second::{Rules, DOCUMENT};
+
+impl Changes {
+    pub fn of_checks(&mut self) {
+        self.of_order("order of the judge's checks", |rules| {
+            &mut rules.checks.judge
+        });
+        self.of_order("order of the masker's checks", |rules| {
+            &mut rules.checks.mask
+        });
+        self.of_causes();
+        self.of_lookups();
+    }
+
+    /// Each check exchanged with the next.
+    fn of_order(&mut self, class: &'static str, order: impl Fn(&mut Rules) -> &mut Order) {
+        let checks = order(&mut DOCUMENT.clone()).checks().to_vec();
+        for at in 0..checks.len() - 1 {
+            let name = format!("{:?} and {:?}", checks[at], checks[at + 1]);
+            let mut other = checks.clone();
+            other.swap(at, at + 1);
+            self.push(class, name, ON_ALL, |rules| {
+                *order(rules) = Order::new(&other)
+            });
+        }
+    }
+
+    fn of_causes(&mut self) {
+        for code in Check::Kind as usize..=Check::CopyRoom as usize {
+            for by in [1, u16::MAX] {
+                self.push("causes", format!("of {code}"), ON_ALL, |rules| {
+                    let cause = &mut rules.checks.causes[code];
+                    *cause = cause.wrapping_add(by);
+                });
+            }
+        }
+    }
+
+    fn of_lookups(&mut self) {
+        self.lookup("parent 1".into(), |rules| rules.lookups.parent = 1);
+        for standing in 1..STANDINGS {
+            self.lookup(format!("standing {standing}"), |rules| {
+                rules.lookups.standing = standing as u16;
+            });
+        }
+        for other in [Ordering::Less, Ordering::Greater] {
+            let name = format!("message's length also {other:?} than the copy's");
+            self.lookup(name, |rules| rules.lookups.lengths.push(other));
+        }
+        self.lookup("no lengths".into(), |rules| rules.lookups.lengths.clear());
+    }
+
+    fn lookup(&mut self, name: String, change: impl FnOnce(&mut Rules)) {
+        let change = self.push("lookups", name, ON_ALL, change);
+        change.shown_by(Shown::Lookups);
+    }
+}
