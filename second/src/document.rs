@@ -1,4 +1,4 @@
-//! The figures of document 01. A change request changes these files first, and
+//! The figures of the rules (docs/RULES.md). A change request changes these files first, and
 //! the rest of the program only where it brings a new shape of rule.
 
 mod listings;

@@ -1,4 +1,4 @@
-//! Independent second program for the GTPv2-C judge and masker of document 01.
+//! Independent second program for the GTPv2-C judge and masker.
 //!
 //! It is written from the document alone and serves as a comparison, for
 //! correctness and for speed. `rules` is the shape of the rules and `document`

@@ -1,4 +1,4 @@
-//! Examples A to M of document 01, every variant in its text.
+//! The examples A to M, with every variant.
 
 use crate::support::{five, octets, table};
 use second::{mask, Verdict, DOCUMENT};

@@ -1,9 +1,9 @@
-//! The listings and the types against document 01's own sentences.
+//! The listings and the types against the rules' own words.
 
 use second::rules::{Cover, Least, Listed};
 use second::DOCUMENT;
 
-/// Messages, level and the pairs as document 01 writes them.
+/// Messages, level and the pairs as the rule book writes them.
 const SENTENCES: &[(&[u8], &str, &str)] = &[
     (&[1, 2], "body", "3/0 M, 152/0"),
     (

@@ -1,4 +1,4 @@
-//! Tests of the second program, one module for each part of document 01.
+//! Tests of the second program, one module for each part of the rules.
 
 mod changes;
 mod coverage;

@@ -1,4 +1,4 @@
-//! Rules of document 01 beyond its examples, each worked out by hand.
+//! Rules beyond the examples, each worked out by hand.
 
 use crate::support::{five, message, octets, rows, table, verdict};
 use second::{judge, mask, Verdict, DOCUMENT};
