@@ -10,7 +10,6 @@ ghost use Rattle.reading.specs.Scan.{wholeReading};
 use rules::Reading;
 use rules::Verdict;
 use taking::Counts;
-use taking::header;
 
 mod run;
 
@@ -76,8 +75,8 @@ pub(crate) fn read_body(kind: u32, message: &[u8], rows: &mut [u16]) -> Reading
 {
     let types = facts::table();
     let levels = listings::numbers();
-    let at = header::start(message);
-    let level = header::body(message);
+    let at = heading::start(message);
+    let level = heading::body(message);
     match run::read_run(
         kind,
         level,
@@ -99,7 +98,7 @@ pub(crate) fn read_body(kind: u32, message: &[u8], rows: &mut [u16]) -> Reading
 pub fn read(kind: u32, message: &[u8], rows: &mut [u16]) -> Reading
     ensures { λ r. ⌜ Read kind (now (message .entry)) (now (rows .entry)) r (now (rows .exit)) ⌝ }
 {
-    let v = header::opening(kind, message, message.len());
+    let v = heading::opening(kind, message, message.len());
     if v.code != 0 {
         return refused(v);
     }

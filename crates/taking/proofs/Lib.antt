@@ -1,4 +1,3 @@
-pub mod Messages
 pub mod Heads
 pub mod Taking
 pub mod Lent

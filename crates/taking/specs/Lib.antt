@@ -1,4 +1,3 @@
 pub mod Lent
 pub mod Lacks
 pub mod Held
-pub mod Header

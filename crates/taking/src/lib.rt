@@ -1,11 +1,10 @@
-// What one element does at its level, what a level's end finds, and the checks of a header: all of the rules that the reading of a message
-// follows, whatever way its octets come. These are no entry points: a function here may ask for what its callers show.
+// What one element does at its level, and what a level's end finds: the rules that the reading of a message follows below its header,
+// whatever way its octets come. These are no entry points: a function here may ask for what its callers show.
 ghost use mathlib.Core.Path.{_≡_};
 ghost use Rattle.taking.specs.Lent.{Octet};
 ghost use Rattle.taking.specs.Held.{noCounts};
 
 pub mod element;
-pub mod header;
 pub mod level;
 pub mod line;
 

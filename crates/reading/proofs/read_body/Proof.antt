@@ -6,7 +6,7 @@ use lib.ListN.{length, drop, length-drop}
 use borrow.Author.Needs.{zero≤}
 use Rattle.rules.specs.Listings.{book}
 use Rattle.rules.proofs.Header.{Passed, passed}
-use Rattle.taking.proofs.Messages.{passed-listed}
+use Rattle.heading.proofs.Messages.{passed-listed}
 use Rattle.reading.proofs.Runs.{ran-is}
 use Rattle.reading.proofs.Endings.{read-cut, read-whole, rest-is}
 use borrow.Author.Needs.{needs}

@@ -1,9 +1,9 @@
--- `header::version` meets its contract: it is the reading of the first octet. Assumes nothing.
+-- `version` meets its contract: it is the reading of the first octet. Assumes nothing.
 use mathlib.Core.Path.{refl}
 use borrow.Author.Needs.{needs}
 use Rattle.rules.specs.Framing.{version}
-use Rattle.taking.proofs.header.version.Statement.{statement}
-use Rattle.taking.proofs.header.version.Tie as tie
+use Rattle.heading.proofs.version.Statement.{statement}
+use Rattle.heading.proofs.version.Tie as tie
 
 shared-slice-read-result : tie.Need-shared-slice-read-result
 shared-slice-read-result c = search needs

@@ -1,4 +1,6 @@
-// The header of a message: checks 1 to 8, where the elements begin, and the level that they are read by.
+// The header of a message: checks 1 to 8, where the elements begin, and the level that they are read by. The checks ask for a message's first
+// four octets and its length and no more, so that it does not matter whether the rest is at hand. These are no entry points: a function
+// here may ask for what its callers show.
 ghost use mathlib.Core.Path.{_≡_};
 ghost use mathlib.Core.Bool.{Bool·beq};
 ghost use Prim.Native.Nat.{_<_, _≤_};
@@ -7,8 +9,7 @@ ghost use Rattle.rules.specs.Framing.{version, flagP, flagT};
 ghost use Rattle.rules.specs.Types.{among};
 ghost use Rattle.rules.specs.Listings.{book, noMessage};
 ghost use Rattle.rules.specs.Verdicts.{first, openingChecks};
-ghost use Rattle.taking.specs.Header.{Opens, Sought, Typed, Field, Start, Listed, Body};
-use crate::wide;
+ghost use Rattle.heading.specs.Header.{Opens, Sought, Typed, Field, Start, Listed, Body};
 use rules::Verdict;
 
 // The message types, which of them have T = 1, and the level of each body.
@@ -55,7 +56,7 @@ pub(crate) fn length_field(head: &[u8]) -> usize
     requires { ⌜ 4 ≤ length (now head) ⌝ }
     ensures { λ r. ⌜ Field (now (head .entry)) r ⌝ }
 {
-    wide(head[2]) * 256 + wide(head[3])
+    head[2] as usize * 256 + head[3] as usize
 }
 
 // Where the elements begin.

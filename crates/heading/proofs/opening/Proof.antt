@@ -1,4 +1,4 @@
--- `header::opening` meets its contract: a check that does not apply leaves the answer to those after it, and one that does gives it.
+-- `opening` meets its contract: a check that does not apply leaves the answer to those after it, and one that does gives it.
 -- Assumes nothing.
 use mathlib.Core.Path.{_≡_, refl, sym, ap, _∙_}
 use mathlib.Core.Bool.{Bool, true, false, not}
@@ -15,9 +15,9 @@ use Rattle.rules.specs.Framing.{messageType}
 use Rattle.rules.specs.Listings.{book, isMessage, messageOf}
 use Rattle.rules.specs.Verdicts.{refused, check, first, openingChecks}
 use Rattle.rules.specs.declared.Verdict.{Verdict}
-use Rattle.taking.proofs.Messages.{count}
-use Rattle.taking.proofs.header.opening.Statement.{statement}
-use Rattle.taking.proofs.header.opening.Tie as tie
+use Rattle.heading.proofs.Messages.{count}
+use Rattle.heading.proofs.opening.Statement.{statement}
+use Rattle.heading.proofs.opening.Tie as tie
 
 off : {a : Bool} (v : Verdict) (vs : List Verdict) → a ≡ false → first (check a v ∷ vs) ≡ first vs
 unfolding first check

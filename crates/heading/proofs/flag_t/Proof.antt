@@ -1,9 +1,9 @@
--- `header::flag_t` meets its contract: it is the reading of the first octet. Assumes nothing.
+-- `flag_t` meets its contract: it is the reading of the first octet. Assumes nothing.
 use mathlib.Core.Path.{refl}
 use borrow.Author.Needs.{needs}
 use Rattle.rules.specs.Framing.{flagT}
-use Rattle.taking.proofs.header.flag_t.Statement.{statement}
-use Rattle.taking.proofs.header.flag_t.Tie as tie
+use Rattle.heading.proofs.flag_t.Statement.{statement}
+use Rattle.heading.proofs.flag_t.Tie as tie
 
 shared-slice-read-result : tie.Need-shared-slice-read-result
 shared-slice-read-result c = search needs

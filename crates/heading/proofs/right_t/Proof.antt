@@ -1,13 +1,13 @@
--- `header::right_t` meets its contract: the constant is the T of the messages, computed. Assumes nothing.
+-- `right_t` meets its contract: the constant is the T of the messages, computed. Assumes nothing.
 use mathlib.Core.Path.{_≡_, refl, sym, ap, _∙_}
 use mathlib.Core.Bool.{Bool, true, false, not, Bool·beq}
 use native.Mathlib.Omega.{arith}
 use borrow.Author.Needs.{needs}
 use lib.ListN.{getD}
 use Rattle.rules.specs.Listings.{noMessage, messages, book}
-use Rattle.taking.proofs.Messages.{teid-at, count}
-use Rattle.taking.proofs.header.right_t.Statement.{statement}
-use Rattle.taking.proofs.header.right_t.Tie as tie
+use Rattle.heading.proofs.Messages.{teid-at, count}
+use Rattle.heading.proofs.right_t.Statement.{statement}
+use Rattle.heading.proofs.right_t.Tie as tie
 
 with-t : (b : Bool) → b ≡ Bool·beq true b
 with-t true = refl

@@ -1,9 +1,9 @@
--- `header::flag_p` meets its contract: it is the reading of the first octet. Assumes nothing.
+-- `flag_p` meets its contract: it is the reading of the first octet. Assumes nothing.
 use mathlib.Core.Path.{refl}
 use borrow.Author.Needs.{needs}
 use Rattle.rules.specs.Framing.{flagP}
-use Rattle.taking.proofs.header.flag_p.Statement.{statement}
-use Rattle.taking.proofs.header.flag_p.Tie as tie
+use Rattle.heading.proofs.flag_p.Statement.{statement}
+use Rattle.heading.proofs.flag_p.Tie as tie
 
 shared-slice-read-result : tie.Need-shared-slice-read-result
 shared-slice-read-result c = search needs

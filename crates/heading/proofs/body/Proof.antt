@@ -1,4 +1,4 @@
--- `header::body` meets its contract: the constant is the bodies of the messages, computed. Assumes nothing.
+-- `body` meets its contract: the constant is the bodies of the messages, computed. Assumes nothing.
 use mathlib.Core.Path.{_≡_, _∙_}
 use Prim.Native.Nat.{_<_}
 use native.Mathlib.Omega.{arith}
@@ -7,9 +7,9 @@ use lib.ListN.{length, getD}
 use Rattle.rules.specs.Framing.{messageType}
 use Rattle.rules.specs.Listings.{noMessage, messages, book, messageOf}
 use Rattle.rules.specs.Taking.{bodyLevel}
-use Rattle.taking.proofs.Messages.{bodiesOf, body-at, body-level, listed-low, count}
-use Rattle.taking.proofs.header.body.Statement.{statement}
-use Rattle.taking.proofs.header.body.Tie as tie
+use Rattle.heading.proofs.Messages.{bodiesOf, body-at, body-level, listed-low, count}
+use Rattle.heading.proofs.body.Statement.{statement}
+use Rattle.heading.proofs.body.Tie as tie
 
 shared-slice-read-seek : tie.Need-shared-slice-read-seek
 shared-slice-read-seek c = search needs

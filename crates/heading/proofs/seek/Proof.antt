@@ -1,4 +1,4 @@
--- `header::seek` meets its contract. The constant is the types of the messages, computed; the invariant: none of the messages passed has
+-- `seek` meets its contract. The constant is the types of the messages, computed; the invariant: none of the messages passed has
 -- the type, so the search goes on from number n. Assumes nothing.
 use mathlib.Core.Path.{_≡_, refl}
 use mathlib.Core.List.{List}
@@ -9,10 +9,10 @@ use borrow.Author.Needs.{needs}
 use lib.ListN.{length, getD, drop}
 use lib.Seq.{drop-length}
 use Rattle.rules.specs.Listings.{messages, book, seekMessage}
-use Rattle.taking.specs.Header.{Sought}
-use Rattle.taking.proofs.Messages.{typesOf, message-found, message-passed, count}
-use Rattle.taking.proofs.header.seek.Statement.{statement}
-use Rattle.taking.proofs.header.seek.Tie as tie
+use Rattle.heading.specs.Header.{Sought}
+use Rattle.heading.proofs.Messages.{typesOf, message-found, message-passed, count}
+use Rattle.heading.proofs.seek.Statement.{statement}
+use Rattle.heading.proofs.seek.Tie as tie
 
 record Searching (t : ℕ) (types : List ℕ) (n : ℕ) : Type 0 where
   types-are : types ≡ typesOf (book .messages)

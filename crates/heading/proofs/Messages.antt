@@ -15,7 +15,7 @@ use Rattle.rules.specs.Sound.{everyLevel, everyMessage, sound}
 use Rattle.rules.proofs.Lines.{and-left, and-right}
 use Rattle.rules.proofs.Header.{Passed}
 use Rattle.rules.proofs.Book.{book-sound}
-use Rattle.taking.specs.Header.{Listed}
+use Rattle.heading.specs.Header.{Listed}
 
 module _ (xs : List Message) where
   abbrev pub typesOf : List ℕ

@@ -1,10 +1,10 @@
--- `header::known` goes by its tests. Assumes nothing.
+-- `known` goes by its tests. Assumes nothing.
 use mathlib.Core.Path.{_≡_, refl}
 use mathlib.Core.Bool.{Bool, true, false, _||_}
 use borrow.Author.Tests.{eq-eqb, ne-eqb}
 use Rattle.rules.specs.Listings.{book}
-use Rattle.taking.proofs.header.known.Statement.{statement}
-use Rattle.taking.proofs.header.known.Tie as tie
+use Rattle.heading.proofs.known.Statement.{statement}
+use Rattle.heading.proofs.known.Tie as tie
 
 or-false : (a : Bool) → a || false ≡ a
 or-false true = refl

@@ -1,9 +1,9 @@
--- `header::start` meets its contract: 12 octets with T, 8 without. Assumes nothing.
+-- `start` meets its contract: 12 octets with T, 8 without. Assumes nothing.
 use mathlib.Core.Path.{sym, _∙_}
 use borrow.Author.Needs.{needs}
 use Rattle.rules.specs.Framing.{headerLength}
-use Rattle.taking.proofs.header.start.Statement.{statement}
-use Rattle.taking.proofs.header.start.Tie as tie
+use Rattle.heading.proofs.start.Statement.{statement}
+use Rattle.heading.proofs.start.Tie as tie
 
 flag-t-requires : tie.Need-flag-t-requires
 flag-t-requires c κs = search needs
