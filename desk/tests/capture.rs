@@ -1,5 +1,8 @@
 //! Captures in and out: every link that is read, fragments and cut packets, and the tool itself on a capture of its own making.
 
+mod installed;
+
+use installed::installed;
 use std::net::IpAddr;
 use std::path::PathBuf;
 use std::process::{Command, Output};
@@ -175,7 +178,8 @@ fn masked_capture() {
         assert!(matches!(packet::find(1, &masked.packet, 2123), Found::Datagram(_)));
     }
     // tshark, where it is installed, reads as many messages in what came out
-    if let Ok(seen) = Command::new("tshark").args(["-r", output.to_str().unwrap(), "-T", "fields", "-e", "gtpv2.message_type"]).output() {
+    if installed("tshark") {
+        let seen = Command::new("tshark").args(["-r", output.to_str().unwrap(), "-T", "fields", "-e", "gtpv2.message_type"]).output().unwrap();
         assert_eq!(String::from_utf8_lossy(&seen.stdout).lines().filter(|l| *l == "32").count(), 3);
     }
 }

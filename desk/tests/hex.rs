@@ -1,5 +1,8 @@
 //! The reader of hex text: every form gives the message, and no damage of one character makes another of it.
 
+mod installed;
+
+use installed::installed;
 use std::io::Write;
 use std::path::{Path, PathBuf};
 use std::process::{Command, Stdio};
@@ -28,7 +31,10 @@ fn digits(text: &str) -> Vec<u8> {
 
 /// What a tool makes of octets, if it is installed.
 fn tool(command: &[&str], octets: &[u8]) -> Option<String> {
-    let mut child = Command::new(command[0]).args(&command[1..]).stdin(Stdio::piped()).stdout(Stdio::piped()).spawn().ok()?;
+    if !installed(command[0]) {
+        return None;
+    }
+    let mut child = Command::new(command[0]).args(&command[1..]).stdin(Stdio::piped()).stdout(Stdio::piped()).spawn().unwrap();
     child.stdin.take().unwrap().write_all(octets).unwrap();
     Some(String::from_utf8(child.wait_with_output().unwrap().stdout).unwrap())
 }
