@@ -29,6 +29,8 @@ pub struct Args {
     pub out: Option<OsString>,
     pub port: u16,
     pub message: Option<usize>,
+    /// values whole, however long
+    pub long: bool,
 }
 
 /// What is to be done instead.
@@ -58,10 +60,16 @@ fn help_on(command: Command) -> &'static str {
     }
 }
 
+/// The edition that the rule book says it is.
+fn edition() -> &'static str {
+    include_str!("../../docs/RULES.md").lines().find(|l| l.starts_with("Edition ")).unwrap_or("Edition unknown")
+}
+
 pub fn version() -> String {
     format!(
-        "wok {}\nrules: docs/RULES.md of Wokshimmer, after 3GPP TS 29.274 (GTPv2-C); verdicts, tables, copies and pages are proved\n",
-        env!("CARGO_PKG_VERSION")
+        "wok {}\nrules: docs/RULES.md of Wokshimmer, after 3GPP TS 29.274 (GTPv2-C); verdicts, tables, copies and pages are proved\n{}\n",
+        env!("CARGO_PKG_VERSION"),
+        edition()
     )
 }
 
@@ -77,8 +85,19 @@ pub fn parse(words: Vec<OsString>) -> Result<Args, Instead> {
         "" => return refuse("no command"),
         other => return refuse(format!("no command '{other}'")),
     };
-    let mut args =
-        Args { command, kind: 0, kind_name: "", files: vec![], right: false, form: Form::Page, hex: false, out: None, port: 2123, message: None };
+    let mut args = Args {
+        command,
+        kind: 0,
+        kind_name: "",
+        files: vec![],
+        right: false,
+        form: Form::Page,
+        hex: false,
+        out: None,
+        port: 2123,
+        message: None,
+        long: false,
+    };
     let (mut plain, mut operands) = (false, vec![]);
     while let Some(word) = words.next() {
         let text = word.to_str().unwrap_or("").to_owned();
@@ -108,6 +127,7 @@ fn option(args: &mut Args, text: &str, words: &mut dyn Iterator<Item = OsString>
     let mut value = || given.clone().or_else(|| words.next()).ok_or(Instead::Refuse(format!("{name} wants a value")));
     match (args.command, name) {
         (Command::Show, "--subscriber") => args.right = true,
+        (Command::Show, "--long") => args.long = true,
         (Command::Show, "--json") => args.form = Form::Json,
         (Command::Show, "--csv") => args.form = Form::Csv,
         (Command::Mask, "--hex") => args.hex = true,

@@ -15,9 +15,9 @@ pub struct Origin<'a> {
 
 /// A message's name and its verdict in words, as its page has them.
 pub fn words(page: &str) -> (&str, &str) {
-    let mut lines = page.lines();
-    let title = lines.next().unwrap_or("");
-    (title.split(" on ").next().unwrap_or(title), lines.next().unwrap_or(""))
+    let title = page.lines().next().unwrap_or("");
+    let verdict = page.lines().find(|l| l.starts_with("accepted") || l.starts_with("refused"));
+    (title.split(" on ").next().unwrap_or(title), verdict.unwrap_or(""))
 }
 
 /// A time in UTC, to the microsecond.
@@ -94,7 +94,7 @@ pub struct View {
 impl View {
     pub fn of(library: &mut Library, right: bool, message: &[u8]) -> View {
         let judged = library.judge(message);
-        let (name, sentence) = words(library.show(right, message));
+        let (name, sentence) = words(library.show(right, false, message));
         let (name, sentence) = (name.to_owned(), sentence.to_owned());
         let mut copy = vec![0; message.len()];
         let copy = library.mask(message, &mut copy).is_ok().then_some(copy);
@@ -170,10 +170,11 @@ pub fn json(library: &Library, right: bool, origin: &Origin, view: &View) -> Str
     for (i, &[parent, kind, instance, place, length, standing]) in view.judged.rows.iter().enumerate() {
         let (value, covered) = view.value(library, right, i);
         let value = value.map_or("null".into(), |v| quoted(&v));
+        let name = quoted(&library.name(kind as u8));
         let comma = if i == 0 { "" } else { "," };
         let _ = write!(
             out,
-            r#"{comma}{{"row":{},"parent":{parent},"type":{kind},"instance":{instance},"place":{place},"length":{length},"standing":{standing},"value":{value},"covered":{covered}}}"#,
+            r#"{comma}{{"row":{},"parent":{parent},"type":{kind},"name":{name},"instance":{instance},"place":{place},"length":{length},"standing":{standing},"value":{value},"covered":{covered}}}"#,
             i + 1
         );
     }
@@ -181,7 +182,7 @@ pub fn json(library: &Library, right: bool, origin: &Origin, view: &View) -> Str
 }
 
 pub const CSV_HEAD: &str =
-    "file,message,time,from,to,kind,octets,code,cause,at,at_type,at_instance,row,parent,type,instance,place,length,standing,value,covered\n";
+    "file,message,time,from,to,kind,octets,code,cause,at,at_type,at_instance,row,parent,type,name,instance,place,length,standing,value,covered\n";
 
 fn cell(text: &str) -> String {
     if text.contains([',', '"', '\n', '\r']) {
@@ -207,12 +208,14 @@ pub fn csv(library: &Library, right: bool, origin: &Origin, view: &View) -> Stri
         view.octets
     );
     if view.judged.rows.is_empty() {
-        return head + ",,,,,,,,,\n";
+        return head + ",,,,,,,,,,\n";
     }
     let mut out = String::new();
     for (i, &[parent, kind, instance, place, length, standing]) in view.judged.rows.iter().enumerate() {
         let (value, covered) = view.value(library, right, i);
-        let _ = writeln!(out, "{head},{},{parent},{kind},{instance},{place},{length},{standing},{},{covered}", i + 1, value.unwrap_or_default());
+        let name = cell(&library.name(kind as u8));
+        let _ =
+            writeln!(out, "{head},{},{parent},{kind},{name},{instance},{place},{length},{standing},{},{covered}", i + 1, value.unwrap_or_default());
     }
     out
 }

@@ -17,11 +17,13 @@ Exit status: 0 accepted or masked, 1 refused (or one of several was), 2 bad use,
 ";
 
 pub const SHOW: &str = "\
-usage: wok show [--subscriber] [--json | --csv] [--message N] [--port N] KIND FILE...
+usage: wok show [--subscriber] [--long] [--json | --csv] [--message N] [--port N] KIND FILE...
 
 The message in words. Of a capture a line each: number, time, peers, name, verdict; --message N shows the page of one.
-Values of the subscriber are shown as zeros, and of a message that checks 1 to 9 refuse nothing is shown but its length.
+What the rules cover of a value is shown as 'covered', and of a message that checks 1 to 9 refuse nothing is shown but its length and what its first
+four octets say.
   --subscriber   with the subscriber's values: for those who may see them
+  --long         values whole; without it a page cuts those over 32 octets
   --json         an object a message, one a line: verdict, header, rows; values in hex, null where covered,
                  and null for a group, whose rows have its value; 'covered' counts octets
   --csv          a line a row

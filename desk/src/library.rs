@@ -5,12 +5,13 @@ use std::os::raw::c_uint;
 extern "C" {
     fn wok_judge(kind: c_uint, message: *const u8, len: usize, table: *mut u8, table_len: usize, five: *mut u8, five_len: usize) -> u16;
     fn wok_mask(kind: c_uint, message: *const u8, len: usize, copy: *mut u8, copy_len: usize, five: *mut u8, five_len: usize) -> u16;
-    fn wok_show(kind: c_uint, right: u8, message: *const u8, len: usize, page: *mut u8, page_len: usize) -> usize;
+    fn wok_show(kind: c_uint, right: u8, full: u8, message: *const u8, len: usize, page: *mut u8, page_len: usize) -> usize;
+    fn wok_name(what: u8, number: u8, name: *mut u8, name_len: usize) -> usize;
 }
 
 /// A table with room for 1,022 rows.
 const TABLE: usize = 12272;
-/// A page on any message fits.
+/// A page on any message fits, with values cut.
 const PAGE: usize = 163840;
 
 /// A row of the table: parent, type, instance, value place, value length, standing.
@@ -71,11 +72,25 @@ impl Library {
         }
     }
 
-    /// The message in words, with the subscriber's values for a viewer with the right.
-    pub fn show(&mut self, right: bool, message: &[u8]) -> &str {
+    /// The message in words, with the subscriber's values for a viewer with the right, and with whole values if they are asked for.
+    pub fn show(&mut self, right: bool, long: bool, message: &[u8]) -> &str {
+        loop {
+            // SAFETY: as above.
+            let n = unsafe { wok_show(self.kind, right as u8, long as u8, message.as_ptr(), message.len(), self.page.as_mut_ptr(), self.page.len()) };
+            // a page that fills its buffer may be cut; only whole values make one so long
+            if n < self.page.len() || !long {
+                return std::str::from_utf8(&self.page[..n.min(self.page.len())]).unwrap_or("");
+            }
+            self.page.resize(2 * n, 0);
+        }
+    }
+
+    /// An element's name.
+    pub fn name(&self, typ: u8) -> String {
+        let mut name = [0u8; 64];
         // SAFETY: as above.
-        let n = unsafe { wok_show(self.kind, right as u8, message.as_ptr(), message.len(), self.page.as_mut_ptr(), PAGE) };
-        std::str::from_utf8(&self.page[..n.min(PAGE)]).unwrap_or("")
+        let n = unsafe { wok_name(0, typ, name.as_mut_ptr(), name.len()) };
+        String::from_utf8_lossy(&name[..n.min(name.len())]).into_owned()
     }
 
     /// How many octets of a value, from its end, are covered; found by asking the masker about a copy with other octets there.

@@ -153,7 +153,7 @@ impl Job {
     fn show(&mut self, origin: &Origin, message: &[u8]) {
         let right = self.args.right;
         if self.args.form == Form::Page {
-            let page = self.library.show(right, message).to_owned();
+            let page = self.library.show(right, self.args.long, message).to_owned();
             self.paint(&page);
             if self.library.judge(message).five[0] != 0 {
                 self.refused();
@@ -204,7 +204,7 @@ impl Job {
 
     /// Says why a message has no masked copy, in the library's words.
     fn left_out(&mut self, origin: &Origin, message: &[u8]) {
-        let sentence = forms::words(self.library.show(false, message)).1.to_owned();
+        let sentence = forms::words(self.library.show(false, false, message)).1.to_owned();
         let packet = origin.packet.map_or(String::new(), |m| format!(" (packet {})", m.packet_number));
         say(format!("{}: message {}{packet} is not masked: {sentence}", origin.file, origin.number));
         self.refused();
@@ -246,7 +246,7 @@ impl Job {
     }
 
     fn line(&mut self, number: usize, m: &Message) {
-        let text = forms::line(number, m, self.library.show(false, m.octets()));
+        let text = forms::line(number, m, self.library.show(false, false, m.octets()));
         self.paint(&text);
         if self.library.judge(m.octets()).five[0] != 0 {
             self.refused();

@@ -193,7 +193,7 @@ fn shown_capture() {
     assert_eq!(lines.len(), 2);
     assert!(lines[0].starts_with("    1 2023-11-14T22:13:20.123456Z 10.0.0.1:2123 > 10.0.0.2:2123 Create Session Request (32): "), "{}", lines[0]);
     let page = wok(&["show", "S11", "--message", "2", input.to_str().unwrap()]);
-    assert!(String::from_utf8(page.stdout).unwrap().starts_with("Message on S11, 12 octets\nrefused by check 6"));
+    assert!(String::from_utf8(page.stdout).unwrap().starts_with("Create Session Request (32) on S11, 12 octets\nrefused by check 6"));
     assert_eq!(wok(&["show", "S11", "--message", "3", input.to_str().unwrap()]).status.code(), Some(2));
     assert_eq!(wok(&["show", "S11", "--port", "9", input.to_str().unwrap()]).status.code(), Some(2));
     // what is there of a capture that is cut off is shown, and the rest is said

@@ -1,14 +1,16 @@
 -- The table says of each type number what the rules say: one test that is computed over all of it, and one law that turns the test into
--- the three readings of an entry. Assumes nothing.
+-- the readings of an entry. Assumes nothing.
 use mathlib.Core.Path.{_≡_, refl}
-use mathlib.Core.Bool.{Bool, true, false, cond, _&&_, Bool·beq}
-use Prim.Native.Nat.{ℕ, _/_, _%_, _<_}
-use borrow.Author.Tests.{eqb-true}
-use lib.Dec.{eqb}
+use mathlib.Core.Bool.{Bool, true, false, cond, _&&_, _||_, Bool·beq}
+use Prim.Native.Nat.{ℕ, _/_, _%_, _≤_, _<_}
+use native.Mathlib.Omega.{arith}
+use borrow.Author.Tests.{eqb-true, ltb-true}
+use lib.Dec.{eqb, ltb}
 use lib.ListN.{getD}
 use Rattle.rules.specs.Types.{leastOf87, leastOf79, leastByType, leastOf, groups, isGroup, wholeTypes, coversWhole, coversRest}
+use Rattle.rules.specs.Covered.{isAside, openOctets}
 use Rattle.rules.proofs.Lines.{and-left, and-right, beq-same}
-use Rattle.facts.specs.Facts.{coverOf, entryOf, entriesFrom, facts, leastIn, groupIn, coverIn}
+use Rattle.facts.specs.Facts.{coverOf, entryOf, entriesFrom, facts, leastIn, groupIn, coverIn, openIn}
 use Rattle.facts.proofs.Entries.{at}
 
 -- the entry x is right for the type t
@@ -51,3 +53,25 @@ group-is t h = rule t h .group
 pub cover-is : (t : ℕ) → t < 256 → coverIn facts t ≡ coverOf t
 unfolding coverIn
 cover-is t h = rule t h .cover
+
+-- by the cover as a number
+open-case : (a w r z : Bool) (n : ℕ)
+    → cond a 0 (cond (eqb (cond w 1 (cond r 2 0)) 1) 0 (cond (eqb (cond w 1 (cond r 2 0)) 2 && z) 1 n)) ≡ cond (a || w) 0 (cond (r && z) 1 n)
+open-case true w r z n = refl
+open-case false true r z n = refl
+open-case false false true z n = refl
+open-case false false false z n = refl
+
+pub open-is : (t s n : ℕ) → t < 256 → openIn facts t s n ≡ openOctets t s n
+unfolding openIn openOctets coverOf
+open-is t s n h = rw (cover-is t h) (open-case (isAside s) (coversWhole t) (coversRest t) (ltb 0 n) n)
+
+most-case : (a r z : Bool) (n : ℕ) → ltb 0 n ≡ z → cond a 0 (cond (r && z) 1 n) ≤ n
+most-case true r z n e = omega arith
+most-case false true true n e = omega (arith, ltb-true 0 n e)
+most-case false true false n e = omega arith
+most-case false false z n e = omega arith
+
+pub open-most : (t s n : ℕ) → openOctets t s n ≤ n
+unfolding openOctets
+open-most t s n = most-case (isAside s || coversWhole t) (coversRest t) (ltb 0 n) n refl

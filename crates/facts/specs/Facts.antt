@@ -1,11 +1,12 @@
 -- What the rules say of a type number, as a table with one entry for each, and how an entry is read. Assumes nothing.
 use mathlib.Core.Path.{_≡_}
-use mathlib.Core.Bool.{Bool, cond}
+use mathlib.Core.Bool.{Bool, cond, _&&_}
 use mathlib.Core.List.{List, [], _∷_}
 use Prim.Native.Nat.{ℕ, zero, suc, _+_, _*_, _/_, _%_, _<_}
-use lib.Dec.{eqb}
+use lib.Dec.{eqb, ltb}
 use lib.ListN.{getD}
 use Rattle.rules.specs.Types.{leastOf87, leastOf79, leastOf, isGroup, coversWhole, coversRest}
+use Rattle.rules.specs.Covered.{isAside}
 
 -- the cover for the type's sake: 1 the whole value, 2 all but the first octet, 0 nothing
 unfoldable pub coverOf : ℕ → ℕ
@@ -34,6 +35,10 @@ groupIn xs t = eqb (getD xs t 0 / 32 % 2) 1
 
 unfoldable pub coverIn : List ℕ → ℕ → ℕ
 coverIn xs t = getD xs t 0 / 64
+
+-- how many leading octets of a value of n octets are left open: none of one that is set aside
+unfoldable pub openIn : List ℕ → ℕ → ℕ → ℕ → ℕ
+openIn xs t s n = cond (isAside s) 0 (cond (eqb (coverIn xs t) 1) 0 (cond (eqb (coverIn xs t) 2 && ltb 0 n) 1 n))
 
 -- a least length, which is small
 pub record Figure (least r : ℕ) : Type 0 where

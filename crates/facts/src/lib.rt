@@ -2,7 +2,7 @@
 // plus 32 for a group, plus 64 times the cover for the type's sake.
 ghost use mathlib.Core.Path.{_≡_};
 ghost use Rattle.rules.specs.Types.{leastOf87, leastOf79};
-ghost use Rattle.facts.specs.Facts.{facts, Figure, leastIn, groupIn, coverIn};
+ghost use Rattle.facts.specs.Facts.{facts, Figure, leastIn, groupIn, coverIn, openIn};
 
 const FACTS: [u8; 256] = [
     1,
@@ -327,4 +327,28 @@ pub fn cover(facts: &[u8; 256], typ: u8) -> u8
     ensures { λ r. ⌜ r ≡ coverIn (now (facts .entry)) typ ⌝ }
 {
     facts[typ as usize] / 64
+}
+
+// How many leading octets of a value of `len` octets are left open: none if it is set aside.
+pub fn open_octets(facts: &[u8; 256], typ: u8, stand: u16, len: usize) -> usize
+    ensures { λ r. ⌜ r ≡ openIn (now (facts .entry)) typ stand len ⌝ }
+{
+    if stand == 1 {
+        return 0;
+    }
+    if stand == 2 {
+        return 0;
+    }
+    let by_type = cover(facts, typ);
+    if by_type == 1 {
+        return 0;
+    }
+    if by_type != 2 {
+        return len;
+    }
+    // 79 keeps its first octet.
+    if 0 < len {
+        return 1;
+    }
+    0
 }

@@ -9,7 +9,7 @@ use Rattle.rules.specs.Standing.{Item, valuePlace, valueEnd}
 use Rattle.rules.specs.Table.{laid}
 use Rattle.rules.specs.Covered.{openOctets, zeroed, cleared, clearAll}
 use Rattle.rules.proofs.Rows.{Every}
-use Rattle.masking.proofs.Opening.{open-most}
+use Rattle.facts.proofs.Facts.{open-most}
 
 module _ (m rest : List ℕ) (a n : ℕ) (fits : a + n ≤ length m) where
   zeroed-front : zeroed (m ++ rest) a n ≡ zeroed m a n ++ rest

@@ -2,7 +2,7 @@
 ghost use mathlib.Core.Path.{_≡_};
 ghost use Prim.Native.Nat.{_+_, _-_, _≤_};
 ghost use lib.ListN.{length, replicate};
-ghost use Rattle.rules.specs.Covered.{openOctets, zeroed};
+ghost use Rattle.rules.specs.Covered.{zeroed};
 ghost use Rattle.rules.specs.Answers.{Masked};
 ghost use Rattle.facts.specs.Facts.{facts};
 ghost use Rattle.masking.specs.Clearing.{clearedRow, clearedRows, RowWithin, Within};
@@ -31,31 +31,6 @@ pub(crate) fn clear_value(copy: &mut [u8], place: usize, len: usize, shown: usiz
     clear(&mut copy[start..end]);
 }
 
-// How many leading octets of a value stay: none if it is set aside.
-pub(crate) fn open_octets(types: &[u8; 256], typ: u8, stand: u16, len: usize) -> usize
-    requires { ⌜ now types ≡ facts ⌝ }
-    ensures { λ r. ⌜ r ≡ openOctets typ stand len ⌝ }
-{
-    if stand == 1 {
-        return 0;
-    }
-    if stand == 2 {
-        return 0;
-    }
-    let cover = facts::cover(types, typ);
-    if cover == 1 {
-        return 0;
-    }
-    if cover != 2 {
-        return len;
-    }
-    if len == 0 {
-        return 0;
-    }
-    // 79 keeps its first octet.
-    1
-}
-
 // What is covered of the value of row `n`.
 pub(crate) fn clear_row(types: &[u8; 256], rows: &[u16], n: usize, copy: &mut [u8])
     requires { ⌜ (now types ≡ facts) × RowWithin (now rows) n (length (now copy)) ⌝ }
@@ -64,7 +39,7 @@ pub(crate) fn clear_row(types: &[u8; 256], rows: &[u16], n: usize, copy: &mut [u
     let at = 6 * n;
     let place = rows[at + 3] as usize;
     let len = rows[at + 4] as usize;
-    let shown = open_octets(types, rows[at + 1] as u8, rows[at + 5], len);
+    let shown = facts::open_octets(types, rows[at + 1] as u8, rows[at + 5], len);
     clear_value(copy, place, len, shown);
 }
 

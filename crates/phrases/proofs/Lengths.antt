@@ -1,7 +1,7 @@
 -- How long a text is at most when its slots are filled, whatever the numbers and the table of names are: computed from the texts and slots alone.
 -- Assumes nothing.
---     said-length                                             of a section, by one computed test
---     page-length, refusal-length, row-length, ending-length   of those that others say
+--     said-length   of a section, by one computed test
+--     verdict-length, page-length, row-length, ending-length, mark-length, cover-length, header-length   of those that others say
 use mathlib.Core.Path.{_≡_, refl}
 use mathlib.Core.Bool.{Bool, true, false, cond, _&&_, _||_}
 use mathlib.Core.List.{List, [], _∷_}
@@ -16,7 +16,7 @@ use Rattle.wording.specs.Pieces.{leftIn, rightIn}
 use Rattle.wording.proofs.Decimals.{decimal-length}
 use Rattle.wording.proofs.Turns.{left-length, right-length, sumOf, each-length}
 use Rattle.phrases.specs.Texts.{octetsOf, Text, slotOctet, every, keyFor, keyOf, textIn}
-use Rattle.phrases.specs.Table.{slots, texts, textFor, itself, unlessZero, element, pages, refusals, rows, endings}
+use Rattle.phrases.specs.Table.{slots, texts, textFor, itself, unlessZero, element, verdicts, pages, rows, endings, marks, covers, headers}
 use Rattle.phrases.specs.Names.{entryOf, beforeBlanks, trimmed, elementName}
 use Rattle.phrases.specs.Sentences.{someDecimal, slotNumber, worded, slotText, pieceText, filled, said}
 
@@ -141,13 +141,13 @@ module _ (names : List ℕ) where
 
     -- ---- what is computed of the texts
 
-    pub page-length : (n : ℕ) → length (said names run pages n) ≤ 200
+    pub verdict-length : (n : ℕ) → length (said names run verdicts n) ≤ 200
     unfolding most sumOf pieceMost wordMost slots texts octetsOf
-    page-length n = said-length pages n 200 refl
+    verdict-length n = said-length verdicts n 200 refl
 
-    pub refusal-length : (n : ℕ) → length (said names run refusals n) ≤ 300
+    pub page-length : (n : ℕ) → length (said names run pages n) ≤ 100
     unfolding most sumOf pieceMost wordMost slots texts octetsOf
-    refusal-length n = said-length refusals n 300 refl
+    page-length n = said-length pages n 100 refl
 
     pub row-length : (n : ℕ) → length (said names run rows n) ≤ 68
     unfolding most sumOf pieceMost wordMost slots texts octetsOf
@@ -156,3 +156,15 @@ module _ (names : List ℕ) where
     pub ending-length : (n : ℕ) → length (said names run endings n) ≤ 11
     unfolding most sumOf pieceMost wordMost slots texts octetsOf
     ending-length n = said-length endings n 11 refl
+
+    pub mark-length : (n : ℕ) → length (said names run marks n) ≤ 12
+    unfolding most sumOf pieceMost wordMost slots texts octetsOf
+    mark-length n = said-length marks n 12 refl
+
+    pub cover-length : (n : ℕ) → length (said names run covers n) ≤ 8
+    unfolding most sumOf pieceMost wordMost slots texts octetsOf
+    cover-length n = said-length covers n 8 refl
+
+    pub header-length : (n : ℕ) → length (said names run headers n) ≤ 13
+    unfolding most sumOf pieceMost wordMost slots texts octetsOf
+    header-length n = said-length headers n 13 refl

@@ -5,12 +5,14 @@ use mathlib.Core.List.{List, [], _∷_}
 use lib.Dec.{eqb, ltb}
 use lib.ListN.{length, getD}
 use Rattle.rules.specs.Program.{decimal}
-use Rattle.rules.specs.Octets.{five}
-use Rattle.rules.specs.declared.Verdict.{Verdict}
 use Rattle.wording.specs.Pieces.{forEach, leftIn, rightIn}
 use Rattle.phrases.specs.Texts.{slotOctet}
-use Rattle.phrases.specs.Table.{slots, textFor, itself, unlessZero, element, refusals}
+use Rattle.phrases.specs.Table.{slots, textFor, itself, unlessZero, element}
 use Rattle.phrases.specs.Names.{elementName}
+
+-- a number of 16 bits: one that is more is said as 65,535
+unfoldable pub narrow : ℕ → ℕ
+narrow n = cond (ltb n 65536) n 65535
 
 -- a number in decimal, and nothing for 0
 unfoldable pub someDecimal : ℕ → List ℕ
@@ -43,7 +45,3 @@ module _ (names : List ℕ) where
     -- the text that a section has for a number, with its slots filled
     unfoldable pub said : ℕ → ℕ → List ℕ
     said section n = filled (textFor section n)
-
--- a refusal in words: which check, where, which element, and the cause to reply with
-abbrev pub refusal : List ℕ → Verdict → List ℕ
-refusal names v = said names (five v) refusals (v .code)

@@ -32,7 +32,7 @@ fn ended(entry: &[u8]) -> usize
 }
 
 // An element's name.
-pub(crate) fn element<'a>(names: &'a [u8], typ: u16) -> &'a [u8]
+pub fn element<'a>(names: &'a [u8], typ: u16) -> &'a [u8]
     ensures { λ r. ⌜ now r ≡ elementName (now (names .entry)) typ ⌝ }
 {
     let e = entry(names, typ);

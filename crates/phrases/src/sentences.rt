@@ -3,17 +3,13 @@ ghost use mathlib.Core.Path.{_≡_};
 ghost use Prim.Native.Nat.{_≤_};
 ghost use Rattle.wording.specs.Puts.{Puts};
 ghost use Rattle.wording.specs.Pieces.{leftIn};
-ghost use Rattle.phrases.specs.Table.{textFor};
-ghost use Rattle.phrases.specs.Sentences.{someDecimal, slotNumber, worded, slotText, pieceText, filled, said, refusal};
+ghost use Rattle.phrases.specs.Table.{messages, textFor};
+ghost use Rattle.phrases.specs.Sentences.{someDecimal, slotNumber, worded, slotText, pieceText, filled, said};
 use crate::finding::text;
 use crate::names::element;
 use crate::runs::number_at;
 use crate::runs::octet_at;
 use crate::table;
-use rules::Verdict;
-
-// The sentences of a refusal, by its code.
-const REFUSALS: u8 = 7;
 
 fn some_number(n: u16, at: usize, out: &mut [u8]) -> usize
     ensures { λ r. ⌜ Puts (someDecimal n) at (now (out .entry)) r (now (out .exit)) ⌝ }
@@ -118,16 +114,10 @@ pub fn say(section: u8, number: u16, names: &[u8], run: &[u16], at: usize, out: 
     fill(text(&octets, section, number), names, run, at, out)
 }
 
-// A refusal.
-pub fn refusal(names: &[u8], v: Verdict, at: usize, out: &mut [u8]) -> usize
-    ensures { λ r. ⌜ Puts (refusal (now (names .entry)) v) at (now (out .entry)) r (now (out .exit)) ⌝ }
+// A message's name by its type.
+pub fn message_name(typ: u16, at: usize, out: &mut [u8]) -> usize
+    ensures { λ r. ⌜ Puts (textFor messages typ) at (now (out .entry)) r (now (out .exit)) ⌝ }
 {
-    say(
-        REFUSALS,
-        v.code,
-        names,
-        &[v.code, v.cause, v.place, v.typ, v.inst],
-        at,
-        out,
-    )
+    let octets = table::octets();
+    wording::copy(text(&octets, 1, typ), at, out)
 }

@@ -235,7 +235,7 @@ module _ (b : Book) (k : ℕ) (m n : List ℕ) (size : length n ≡ length m) (f
 
 module _ (b : Book) (fine : sound b ≡ true) (k : ℕ) (m n : List ℕ) (s : SameOpen b k m n) where
   -- a message that is refused by 1 to 9 has no covered octet
-  refused-same : refuses (first (framingChecks b k m)) ≡ true → n ≡ m
+  pub refused-same : refuses (first (framingChecks b k m)) ≡ true → n ≡ m
   refused-same e = sym (ext-getD 0 m n (sym (s .size)) (λ j l. s .octets j l (open-refused b k m e j)))
 
   framed-rows : (f : Framed b k m) → ((j : ℕ) → coveredIn (f .rows) j ≡ false → covered b k m j ≡ false)

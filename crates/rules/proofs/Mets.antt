@@ -148,10 +148,10 @@ module _ (b : Book) (k : ℕ) where
 
 -- ---- the elements themselves
 
-add-number : (is : List Item) (i : Item) → length (addItem is i) ≡ length is + 1
+pub add-number : (is : List Item) (i : Item) → length (addItem is i) ≡ length is + 1
 add-number is i = length-append is (i ∷ [])
 
-made-items : {b : Book} {k v : ℕ} {m : List ℕ} {p n at : ℕ} {xs : List ℕ} {es : List Item} (d : Met b k v m p n at xs es) (o : ℕ) (s : List Item)
+pub made-items : {b : Book} {k v : ℕ} {m : List ℕ} {p n at : ℕ} {xs : List ℕ} {es : List Item} (d : Met b k v m p n at xs es) (o : ℕ) (s : List Item)
     → made b k (List Item) addItem atEnd length d o s ≡ s ++ es
 unfolding made
 made-items ends o s = sym (append-nil s)

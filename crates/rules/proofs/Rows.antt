@@ -1,6 +1,6 @@
 -- How many rows there are, and that their numbers fit. Assumes nothing.
 --     rows-length, kept-most   six numbers a row; no more rows are kept than there are
---     quarter    a run of n octets has at most n / 4 rows
+--     quarter    a run of n octets, as far as it was walked, has at most n / 4 rows
 --     few-rows   a message of at most 4,096 octets has at most 1,022
 --     fit-16     every number of every row fits in 16 bits
 use mathlib.Core.Path.{_≡_, refl, sym, ap, _∙_}
@@ -23,6 +23,7 @@ use Rattle.rules.specs.Met.{At, Met, ends, alone, group}
 use Rattle.rules.specs.declared.Head.{Head}
 use Rattle.rules.proofs.Heads.{head-is, fits, rest-length, value-length}
 use Rattle.rules.proofs.Mets.{whole-met}
+use Rattle.rules.proofs.Walked.{Walked, met-walked}
 use Rattle.rules.proofs.Standings.{stand-most}
 
 pub rows-length : (is : List Item) → length (rowsOf is) ≡ rowNumbers * length is
@@ -39,10 +40,10 @@ kept-most (i ∷ is) = go (eqb (i .stand) kept) (kept-most is)
     go true h = omega arith
     go false h = omega arith
 
-pub quarter : {b : Book} {k v : ℕ} {m : List ℕ} {p n at : ℕ} {xs : List ℕ} {es : List Item} → Met b k v m p n at xs es → 4 * length es ≤ length xs
-quarter ends = zero≤
-quarter (alone {xs = xs} h a e t) = omega (arith, fits a, rest-length xs (h .len) (fits a), quarter t)
-quarter (group {xs = xs} {is = is} {es = es} h g a e d t) =
+pub quarter : {b : Book} {k v : ℕ} {m : List ℕ} {p n at : ℕ} {xs : List ℕ} {es : List Item} → Walked b k v m p n at xs es → 4 * length es ≤ length xs
+quarter Walked.ends = zero≤
+quarter (Walked.alone {xs = xs} h a e t) = omega (arith, fits a, rest-length xs (h .len) (fits a), quarter t)
+quarter (Walked.group {xs = xs} {is = is} {es = es} h g a e d t) =
     omega (arith, fits a, rest-length xs (h .len) (fits a), value-length xs (h .len) (fits a), quarter d, quarter t, length-append is es)
 
 pub header-least : (m : List ℕ) → 8 ≤ headerLength m
@@ -59,7 +60,7 @@ module _ (b : Book) (k : ℕ) (m : List ℕ) (es : List Item) (e : taken b k m �
   body-met = whole-met b k (bodyLevel b m) (headerLength m) (drop (headerLength m) m) es e
 
   pub rows-quarter : 4 * length es ≤ length m - 8
-  rows-quarter = omega (arith, quarter body-met, length-drop (headerLength m) m, header-least m)
+  rows-quarter = omega (arith, quarter (met-walked body-met), length-drop (headerLength m) m, header-least m)
 
   pub few-rows : length m ≤ largestMessage → length es ≤ mostRows
   few-rows l = omega (arith, rows-quarter)

@@ -1,47 +1,112 @@
--- Without the right to see subscribers, what is shown of a message hangs on its kind, its length, the verdicts, the table and the masked copy alone.
--- Assumes nothing.
---     page-blind       two messages of one length
---     refused-hidden   of a message that the masker refuses, its length alone, to every viewer
---     covered-unseen   two messages that differ in covered octets alone
---     input-unseen     the same of the program's input
-use mathlib.Core.Path.{_≡_, ap, _∙_}
-use mathlib.Core.Bool.{Bool, true, false}
-use mathlib.Core.List.{List, _∷_}
-use Prim.Native.Nat.{ℕ, _≤_}
+-- What a page tells without the right to see subscribers. Assumes nothing.
+--     refused-blind    of a message that 1 to 9 refuse: its kind, the verdict, its length, its first four octets, and which of its two reasons 9 had
+--     page-blind       of any other: its kind and length, the verdict, the table and the masked copy
+--     covered-unseen   so two messages that differ in covered octets alone have one page
+use mathlib.Core.Path.{_≡_, refl, sym, ap, _∙_}
+use mathlib.Core.Bool.{Bool, true, false, cond}
+use mathlib.Core.List.{List, [], _∷_, _++_}
+use Prim.Native.Nat.{ℕ, zero, suc, _+_, _≤_, _<_}
 use native.Mathlib.Omega.{arith}
 use borrow.Author.Tests.{le-ltb}
-use lib.Dec.{eqb}
-use lib.ListN.{length, replicate}
-use lib.Seq.{take-all}
-use Rattle.rules.specs.Sizes.{mostRows, used}
+use lib.ListN.{length, take, getD, replicate}
+use lib.Seq.{take-all, getD-take}
+use Rattle.rules.specs.Sizes.{largestMessage, mostRows, used}
+use Rattle.rules.specs.Framing.{octet, version, flagT, messageType, lengthField, headerLength}
 use Rattle.rules.specs.Listings.{book}
-use Rattle.rules.specs.Verdicts.{refuses, judgeVerdict, maskVerdict, judgeTable}
+use Rattle.rules.specs.Verdicts.{refused, check, refuses, first, framingChecks, copyCheck, maskChecks, judgeVerdict, maskVerdict}
 use Rattle.rules.specs.Covered.{maskCopy}
+use Rattle.rules.specs.Values.{tableRows}
 use Rattle.rules.specs.declared.Verdict.{Verdict}
+use Rattle.rules.proofs.Book.{book-sound}
+use Rattle.rules.proofs.Checks.{first-append}
+use Rattle.rules.proofs.Header.{framed}
 use Rattle.promises.specs.Agreeing.{SameOpen}
-use Rattle.promises.proofs.Main.{both-verdict, both-table, both-mask-verdict, both-copy}
-use Rattle.showing.specs.Showing.{readPage, page, pageOn, tableRoom, copyRoom, shownText}
+use Rattle.promises.proofs.Agreeing.{refused-same, same-taken}
+use Rattle.promises.proofs.Main.{both-verdict, both-mask-verdict, both-copy}
+use Rattle.wording.specs.Pieces.{forEach}
+use Rattle.columns.specs.Rows.{rowLine, rowLines}
+use Rattle.columns.specs.declared.View.{View}
+use Rattle.refusing.specs.Levels.{reasonOf}
+use Rattle.refusing.specs.Refused.{claim, refusedRun, refusedPage}
+use Rattle.showing.specs.Showing.{readPage, copyRoom, tableRead, page, pageOf, pageOn}
 
-pub page-blind : (names : List ℕ) (k : ℕ) (masking judging : Verdict) (table copy m n : List ℕ) → length n ≡ length m
-    → page names k false masking judging table n copy ≡ page names k false masking judging table m copy
-unfolding page readPage
-page-blind names k masking judging table copy m n e = rw e
+-- the octets of a message that count
+abbrev pub counted : List ℕ → List ℕ
+counted m = take (largestMessage + 1) m
 
-pub refused-hidden : (names : List ℕ) (k : ℕ) (r r′ : Bool) (masking judging judging′ : Verdict) (table table′ copy copy′ m n : List ℕ) → refuses masking ≡ true
-    → length n ≡ length m → page names k r masking judging table n copy ≡ page names k r′ masking judging′ table′ m copy′
-unfolding page
-refused-hidden names k r r′ masking judging judging′ table table′ copy copy′ m n e s = rw (e, s)
+-- ---- a message that 1 to 9 refuse
 
-module _ (names : List ℕ) (k : ℕ) (m n : List ℕ) (s : SameOpen book k m n) where
-  pub covered-unseen : pageOn names k false n ≡ pageOn names k false m
-  unfolding pageOn
-  covered-unseen =
-      let masking : maskVerdict book k n (length n) ≡ maskVerdict book k m (length m) = both-mask-verdict k m n s (length n) ∙ ap (maskVerdict book k m) (s .size) in
-      let copy : maskCopy book k n (copyRoom n) ≡ maskCopy book k m (copyRoom m) = both-copy k m n s (copyRoom n) ∙ ap (λ c. maskCopy book k m (replicate c 0)) (s .size) in
-      rw (masking, both-verdict k m n s (used mostRows), both-table k m n s tableRoom, copy)
-      (page-blind names k (maskVerdict book k m (length m)) (judgeVerdict book k m (used mostRows)) (judgeTable book k m tableRoom) (maskCopy book k m (copyRoom m)) m n (s .size))
+-- two messages on one kind that the masker refuses, alike in all that is told of them
+pub record RefusedAlike (k : ℕ) (m n : List ℕ) : Type 0 where
+  pub refusal : refuses (maskVerdict book k m (length m)) ≡ true
+  pub verdict : maskVerdict book k n (length n) ≡ maskVerdict book k m (length m)
+  pub size : length n ≡ length m
+  pub first-four : take 4 n ≡ take 4 m
+  pub reason : reasonOf k n (maskVerdict book k m (length m)) ≡ reasonOf k m (maskVerdict book k m (length m))
 
-  pub input-unseen : (mode : ℕ) → eqb mode 1 ≡ false → length m ≤ 4097 → shownText names (k ∷ mode ∷ n) ≡ shownText names (k ∷ mode ∷ m)
-  unfolding shownText
-  input-unseen mode e l =
-      rw (e, le-ltb (length (k ∷ mode ∷ n)) 2 (omega arith), le-ltb (length (k ∷ mode ∷ m)) 2 (omega arith), take-all 4097 n (omega (arith, s .size)), take-all 4097 m l) covered-unseen
+-- of the octets the first four are said
+run-blind : (k : ℕ) (m n : List ℕ) (v : Verdict) (reason : ℕ) → length n ≡ length m → take 4 n ≡ take 4 m → refusedRun k n v reason ≡ refusedRun k m v reason
+unfolding refusedRun claim version flagT messageType lengthField headerLength
+run-blind k m n v reason e f =
+    let at : (j : ℕ) → j < 4 → octet n j ≡ octet m j = λ j l. sym (getD-take 4 n j 0 l) ∙ ap (λ (xs : List ℕ). getD xs j 0) f ∙ getD-take 4 m j 0 l in
+    rw (e, at 0 (omega arith), at 1 (omega arith), at 2 (omega arith), at 3 (omega arith))
+
+module _ (names : List ℕ) (w : View) (r : w .right ≡ false) where
+  of-refused : (v : Verdict) (m n : List ℕ) → length n ≡ length m → take 4 n ≡ take 4 m → reasonOf (w .kind) n v ≡ reasonOf (w .kind) m v
+      → refusedPage names w v n ≡ refusedPage names w v m
+  unfolding refusedPage
+  of-refused v m n e f g = rw (r, g, run-blind (w .kind) m n v (reasonOf (w .kind) m v) e f)
+
+  pub refused-blind : (m n : List ℕ) → RefusedAlike (w .kind) (counted m) (counted n) → pageOn names w n ≡ pageOn names w m
+  unfolding pageOn pageOf page
+  refused-blind m n a =
+      rw (a .verdict, a .refusal) (of-refused (maskVerdict book (w .kind) (counted m) (length (counted m))) (counted m) (counted n) (a .size) (a .first-four) (a .reason))
+
+  -- ---- a message that was read
+
+  lines-same : (f g : ℕ → List ℕ) → ((i : ℕ) → f i ≡ g i) → (i n : ℕ) → forEach f i n ≡ forEach g i n
+  unfolding forEach
+  lines-same f g e i zero = refl
+  lines-same f g e i (suc n) = rw (e i, lines-same f g e (suc i) n)
+
+  row-blind : (v : Verdict) (table copy m n : List ℕ) → length n ≡ length m → (i : ℕ) → rowLine names w v table n copy i ≡ rowLine names w v table m copy i
+  unfolding rowLine
+  row-blind v table copy m n e i = rw (r, e)
+
+  pub page-blind : (v : Verdict) (table copy m n : List ℕ) → length n ≡ length m → readPage names w v table n copy ≡ readPage names w v table m copy
+  unfolding readPage rowLines
+  page-blind v table copy m n e =
+      rw (lines-same (rowLine names w v table n copy) (rowLine names w v table m copy) (row-blind v table copy m n e) 0 (tableRows table))
+
+  -- ---- two messages that differ in covered octets alone
+
+  module _ (m n : List ℕ) (s : SameOpen book (w .kind) m n) where
+    abbrev k : ℕ
+    k = w .kind
+
+    -- the masker has room
+    mask-passes : refuses (first (framingChecks book k m)) ≡ false → refuses (maskVerdict book k m (length m)) ≡ false
+    unfolding maskChecks first check
+    mask-passes e = rw (first-append (framingChecks book k m) (copyCheck book k m (length m) ∷ []), e, le-ltb (length m) (length m) (omega arith))
+
+    table-same : tableRead k n ≡ tableRead k m
+    unfolding tableRead
+    table-same = rw (same-taken book book-sound k m n s)
+
+    read-unseen : refuses (first (framingChecks book k m)) ≡ false → pageOf names w n ≡ pageOf names w m
+    unfolding pageOf page
+    read-unseen e =
+        let masking : maskVerdict book k n (length n) ≡ maskVerdict book k m (length m) = both-mask-verdict k m n s (length n) ∙ ap (maskVerdict book k m) (s .size) in
+        let copy : maskCopy book k n (copyRoom n) ≡ maskCopy book k m (copyRoom m) = both-copy k m n s (copyRoom n) ∙ ap (λ c. maskCopy book k m (replicate c 0)) (s .size) in
+        rw (masking, mask-passes e, both-verdict k m n s (used mostRows), table-same, copy)
+        (page-blind (judgeVerdict book k m (used mostRows)) (tableRead k m) (maskCopy book k m (copyRoom m)) m n (s .size))
+
+    pub covered-unseen : pageOn names w n ≡ pageOn names w m
+    unfolding pageOn
+    covered-unseen = go (refuses (first (framingChecks book k m))) refl
+      where
+        go : (c : Bool) → refuses (first (framingChecks book k m)) ≡ c → pageOf names w (counted n) ≡ pageOf names w (counted m)
+        go true e = ap (λ (x : List ℕ). pageOf names w (counted x)) (refused-same book book-sound k m n s e)
+        go false e =
+            let l = framed book k m e .0 .most in
+            ap (pageOf names w) (take-all (largestMessage + 1) n (omega (arith, s .size))) ∙ read-unseen e ∙ sym (ap (pageOf names w) (take-all (largestMessage + 1) m (omega arith)))

@@ -1,5 +1,4 @@
-pub mod Tables
+pub mod Listing
 pub mod Paging
 pub mod Blind
 pub mod Lengths
-pub mod Unique

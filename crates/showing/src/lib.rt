@@ -1,19 +1,22 @@
-// What the desk program writes: a message in words, with the values that the viewer may see.
+// The desk's page on a message, with the values that the viewer may see.
 ghost use mathlib.Core.Path.{_≡_};
+ghost use mathlib.Core.Bool.{false};
+ghost use mathlib.Core.List.{_++_};
 ghost use Prim.Native.Nat.{_≤_};
-ghost use lib.ListN.{length, replicate};
+ghost use lib.ListN.{length, drop, replicate};
 ghost use Rattle.rules.specs.Sizes.{mostRows, used};
 ghost use Rattle.rules.specs.Listings.{book};
-ghost use Rattle.rules.specs.Verdicts.{judgeVerdict, judgeTable};
+ghost use Rattle.rules.specs.Verdicts.{refuses, first, framingChecks, judgeVerdict};
+ghost use Rattle.scratch.specs.Zeros.{Zeros};
 ghost use Rattle.wording.specs.Puts.{Puts};
-ghost use Rattle.showing.specs.Showing.{readPage, pageOn, tableRoom, copyRoom, Shown};
-
-mod pages;
-mod rows;
+ghost use Rattle.showing.specs.Showing.{copyRoom, tableRead, readPage, pageOf, pageOn, headOf, Headed, Listed};
+use columns::View;
+use rules::Decision;
+use rules::Verdict;
 
 // Room for 1,022 rows.
 fn table_room() -> [u16; 6136]
-    ensures { λ r. ⌜ r ≡ replicate 6136 0 ⌝ }
+    ensures { λ r. ⌜ Zeros (used mostRows) r ⌝ }
 {
     [0; 6136]
 }
@@ -25,95 +28,72 @@ fn copy_room() -> [u8; 4097]
     [0; 4097]
 }
 
-// The page on a message that the masker accepted.
+// The counts of a table, before its rows.
+fn head(d: Decision, table: &mut [u16])
+    requires { ⌜ Headed d (length (now table)) ⌝ }
+    ensures { λ _. ⌜ now (table .exit) ≡ headOf d ++ drop 4 (now (table .entry)) ⌝ }
+{
+    table[0] = d.rows as u16;
+    table[1] = d.kept as u16;
+    table[2] = 4;
+    table[3] = (4 + 6 * d.rows) as u16;
+}
+
+// The verdict on a message, and its rows in a table, whether 11 or 12 refuse it or not.
+fn list(kind: u32, message: &[u8], table: &mut [u16]) -> Verdict
+    requires { ⌜ Zeros (used mostRows) (now table) ⌝ }
+    ensures { λ r. ⌜ Listed kind (now (message .entry)) r (now (table .exit)) ⌝ }
+{
+    let d = judging::decide(kind, message, &mut table[4..], 6136);
+    head(d, table);
+    d.verdict
+}
+
+// The page on a message that 1 to 9 pass.
 fn read_page<'a>(
     names: &[u8],
-    kind: u32,
-    right: bool,
+    view: View,
     message: &'a [u8],
     copy: &'a [u8],
     out: &mut [u8],
 ) -> usize
-    requires { ⌜ (length (now message) ≤ 4097) × (length (now copy) ≤ 4097) ⌝ }
-    ensures { λ r. ⌜ Puts (readPage (now (names .entry)) kind right (judgeVerdict book kind (now (message .entry)) (used mostRows)) (judgeTable book kind (now (message .entry)) tableRoom) (now (message .entry)) (now (copy .entry))) 0 (now (out .entry)) r (now (out .exit)) ⌝ }
+    requires { ⌜ refuses (first (framingChecks book (view .kind) (now message))) ≡ false ⌝ }
+    ensures { λ r. ⌜ Puts (readPage (now (names .entry)) view (judgeVerdict book (view .kind) (now (message .entry)) (used mostRows)) (tableRead (view .kind) (now (message .entry))) (now (message .entry)) (now (copy .entry))) 0 (now (out .entry)) r (now (out .exit)) ⌝ }
 {
     let mut table = table_room();
-    let v = judging::judge(kind, message, &mut table);
-    if v.code != 0 {
-        return pages::lacking(
-            names,
-            kind,
-            v,
-            copy,
-            pages::seen(right, message, copy),
-            0,
-            out,
-        );
-    }
-    pages::accepted(names, kind, right, message, copy, &table, 0, out)
+    let v = list(view.kind, message, &mut table);
+    let after = titles::title(names, view.kind, v, &table, copy, 0, out);
+    columns::lines(names, view, v, &table, message, copy, after, out)
 }
 
 // The page on a message, by way of a copy as long as it is.
-fn copied_page(
-    names: &[u8],
-    kind: u32,
-    right: bool,
-    message: &[u8],
-    copy: &mut [u8],
-    out: &mut [u8],
-) -> usize
-    requires { ⌜ (length (now message) ≤ 4097) × (now copy ≡ copyRoom (now message)) ⌝ }
-    ensures { λ r. ⌜ Puts (pageOn (now (names .entry)) kind right (now (message .entry))) 0 (now (out .entry)) r (now (out .exit)) ⌝ }
+fn copied_page(names: &[u8], view: View, message: &[u8], copy: &mut [u8], out: &mut [u8]) -> usize
+    requires { ⌜ now copy ≡ copyRoom (now message) ⌝ }
+    ensures { λ r. ⌜ Puts (pageOf (now (names .entry)) view (now (message .entry))) 0 (now (out .entry)) r (now (out .exit)) ⌝ }
 {
-    let f = masking::mask(kind, message, copy);
+    let f = masking::mask(view.kind, message, copy);
     if f.code != 0 {
-        return pages::unread(names, kind, message.len() as u16, f, 0, out);
+        return refusing::refused_page(names, view, f, message, 0, out);
     }
-    read_page(names, kind, right, message, copy, out)
+    read_page(names, view, message, copy, out)
 }
 
 // The same, by way of a longer copy.
-fn page_by(
-    names: &[u8],
-    kind: u32,
-    right: bool,
-    message: &[u8],
-    room: &mut [u8],
-    out: &mut [u8],
-) -> usize
+fn page_by(names: &[u8], view: View, message: &[u8], room: &mut [u8], out: &mut [u8]) -> usize
     requires { ⌜ (length (now message) ≤ 4097) × (now room ≡ replicate 4097 0) ⌝ }
-    ensures { λ r. ⌜ Puts (pageOn (now (names .entry)) kind right (now (message .entry))) 0 (now (out .entry)) r (now (out .exit)) ⌝ }
+    ensures { λ r. ⌜ Puts (pageOf (now (names .entry)) view (now (message .entry))) 0 (now (out .entry)) r (now (out .exit)) ⌝ }
 {
     let size = message.len();
-    copied_page(names, kind, right, message, &mut room[..size], out)
+    copied_page(names, view, message, &mut room[..size], out)
 }
 
-pub fn page(names: &[u8], kind: u32, right: bool, message: &[u8], out: &mut [u8]) -> usize
-    requires { ⌜ length (now message) ≤ 4097 ⌝ }
-    ensures { λ r. ⌜ Puts (pageOn (now (names .entry)) kind right (now (message .entry))) 0 (now (out .entry)) r (now (out .exit)) ⌝ }
+// The page on a message, of which 4,097 octets are enough to see that it is too long.
+pub fn page(names: &[u8], view: View, message: &[u8], out: &mut [u8]) -> usize
+    ensures { λ r. ⌜ Puts (pageOn (now (names .entry)) view (now (message .entry))) 0 (now (out .entry)) r (now (out .exit)) ⌝ }
 {
     let mut room = copy_room();
-    page_by(names, kind, right, message, &mut room, out)
-}
-
-fn wide(octet: u8) -> u32
-    ensures { λ r. ⌜ r ≡ octet ⌝ }
-{
-    octet as u32
-}
-
-// The text on an input: its first octet is the kind, the second gives the right to see subscribers if it is 1, and up to 4,097 more
-// are the message.
-pub fn text(names: &[u8], input: &[u8], out: &mut [u8]) -> usize
-    ensures { λ r. ⌜ Shown (now (names .entry)) (now (input .entry)) (now (out .entry)) r (now (out .exit)) ⌝ }
-{
-    if input.len() < 2 {
-        return wording::copy(b"no kind and mode\n", 0, out);
+    if message.len() <= 4097 {
+        return page_by(names, view, message, &mut room, out);
     }
-    let kind = wide(input[0]);
-    let right = input[1] == 1;
-    if input.len() <= 4099 {
-        return page(names, kind, right, &input[2..], out);
-    }
-    page(names, kind, right, &input[2..4099], out)
+    page_by(names, view, &message[..4097], &mut room, out)
 }

@@ -19,6 +19,7 @@ use Rattle.rules.specs.Sound.{sound}
 use Rattle.rules.specs.Values.{cell}
 use Rattle.rules.proofs.Mets.{met-whole}
 use Rattle.rules.proofs.Rows.{quarter, body-met}
+use Rattle.rules.proofs.Walked.{met-walked}
 use Rattle.tables.proofs.Rowed.{kept-from, Begins, own-begins, row-of, count-of}
 use Rattle.tables.specs.Words.{rows, keptAmong, CoversTo}
 use Rattle.tables.specs.IsTable.{IsRows, IsTable}
@@ -95,4 +96,4 @@ one-table b fine k m t u x y =
 pub few : (b : Book) → sound b ≡ true → (k : ℕ) (m t : List ℕ) → IsTable b k m t → headerLength m + elementHeader * rows t ≤ length m
 few b fine k m t x =
     let c = complete b fine k m t x in
-    omega (arith, quarter (body-met b k m (c .0) (c .1)), length-drop (headerLength m) m, x .right .has-body, count-of t (c .0) (c .2))
+    omega (arith, quarter (met-walked (body-met b k m (c .0) (c .1))), length-drop (headerLength m) m, x .right .has-body, count-of t (c .0) (c .2))

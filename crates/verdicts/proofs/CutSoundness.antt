@@ -1,6 +1,6 @@
 -- A message that is cut at q has rows as IsCut says: those walked before the cut. Where the walk stops, its level has no row over q, since the level's
 -- rows have ended there (`closed`), and its inside is what the walk had left. Assumes nothing.
-use mathlib.Core.Path.{_≡_, ap, _∙_}
+use mathlib.Core.Path.{_≡_, sym, ap, _∙_}
 use mathlib.Core.Logic.{_⊎_, inl, inr, _≢_}
 use mathlib.Core.Bool.{true, false}
 use mathlib.Core.List.{List, [], _++_}
@@ -25,7 +25,7 @@ use Rattle.verdicts.specs.IsCut.{CutHere, IsCut}
 use Rattle.rules.proofs.Walked.{met-walked}
 use Rattle.tables.proofs.Faithful.{Sub, sub-drop, sub-take}
 use Rattle.verdicts.proofs.Rebuilding.{head-whole}
-use Rattle.verdicts.proofs.Parts.{Part, here, later, within, behind, part-walked, part-before, cover-to, cover-inside-to}
+use Rattle.verdicts.proofs.Parts.{Part, here, later, within, behind, leftOf, part-walked, part-before, cover-to, cover-inside-to}
 use Rattle.tables.proofs.RightRows.{Same, same, count, back, over, is-group, is-entered, is-rows}
 use Rattle.tables.proofs.Rowed.{Begins, inside-others}
 use Rattle.tables.proofs.Messages.{WalkedOf, all-stand}
@@ -104,10 +104,11 @@ module _ (b : Book) (fine : sound b ≡ true) (k : ℕ) (m t : List ℕ) (es : L
           let o₂ : octet xs 2 ≡ octet m (at + 1 + 1) = rw y at (s .sub 2 (omega arith)) in
           inr (omega (arith, l, s .ends-at, o₁, o₂))
 
-  find : {v : ℕ} {ms : List ℕ} {p n at : ℕ} {xs : List ℕ} {fs : List Item} {o : ℕ} → Part b k v ms p n at xs fs o → Stand es n fs → n + length fs ≡ length es → At-level p n at xs
-      → (u : ℕ) × CutHere m t o u
-  unfolding itemOf
-  find (here {p = p} {n = n} {at = at} {xs = xs} pos w) s z a = (p, stop p n at xs a (omega arith) pos w)
+  -- the level that goes on there, and where it ends
+  find : {v : ℕ} {ms : List ℕ} {p n at : ℕ} {xs : List ℕ} {fs : List Item} {o : ℕ} (d : Part b k v ms p n at xs fs o) → Stand es n fs → n + length fs ≡ length es → At-level p n at xs
+      → (u : ℕ) × CutHere m t o u × (levelTo m t u ≡ o + leftOf d)
+  unfolding itemOf leftOf
+  find (here {p = p} {n = n} {at = at} {xs = xs} pos w) s z a = (p, stop p n at xs a (omega arith) pos w, sym (a .ends-at))
   find (later {p = p} {n = n} {at = at} {xs = xs} {es = fs} h w e g) s z a =
       let r = row n (omega (arith, s .room)) in
       let f : rowEnd t n ≡ at + elementHeader + h .len = r .end ∙ ap valueEnd (stand-head s) in
@@ -150,17 +151,20 @@ module _ (b : Book) (fine : sound b ≡ true) (k : ℕ) (m t : List ℕ) (es : L
       let z : suc (0 + y) ≡ suc y = omega arith in
       (r .0, over b fine k m t es ok walked body listed (suc y) j (r .0) (r .1) (rw z at (r .2)))
 
+  pub cut-level : (u : ℕ) × CutHere m t q u × (levelTo m t u ≡ q + leftOf d)
+  cut-level = find d (all-stand b fine k m es walked) (omega arith) (record {
+    level = tt;
+    from = omega arith;
+    ends-at = omega (arith, length-drop (headerLength m) m);
+    under = omega arith;
+    sub = λ j l. getD-drop (headerLength m) m j 0;
+    closed = λ y l. absurd (omega arith);
+  })
+
   pub cut-rows : IsCut b k m t q
   cut-rows = record {
     right = is-rows b fine k m t es ok walked body listed;
     before = λ r l. let s = same b fine k m t es ok walked body listed r l in omega (arith, every-at (λ i. i .place < q) es (part-before d) r (s .there), s .start);
     covers = covers;
-    cut-here = find d (all-stand b fine k m es walked) (omega arith) (record {
-      level = tt;
-      from = omega arith;
-      ends-at = omega (arith, length-drop (headerLength m) m);
-      under = omega arith;
-      sub = λ j l. getD-drop (headerLength m) m j 0;
-      closed = λ y l. absurd (omega arith);
-    });
+    cut-here = (cut-level .0, cut-level .1);
   }

@@ -1,18 +1,21 @@
 -- What was walked of a run before it is cut at q, with its elements: the derivation CutAt with the rows kept. Its octets before q are covered, its rows
 -- begin before q, and at q a level goes on with no whole element. Assumes nothing.
-use mathlib.Core.Path.{_≡_, refl}
+use mathlib.Core.Path.{_≡_, refl, sym, ap, _∙_}
 use mathlib.Core.Bool.{false}
-use mathlib.Core.List.{List, [], _∷_, _++_}
+use mathlib.Core.List.{List, [], _∷_, _++_, append-assoc, append-nil}
 use Prim.Native.Nat.{ℕ, zero, suc, _+_, _≤_, _<_}
 use native.Mathlib.Omega.{arith}
 use native.Mathlib.Decide.{decLt}
-use lib.ListN.{length, take, drop}
+use lib.ListN.{length, take, drop, length-append}
 use Rattle.rules.specs.Framing.{elementHeader, headOf}
 use Rattle.rules.specs.Listings.{Book}
 use Rattle.rules.specs.Standing.{Item, fresh, itemOf, marked, entered}
+use Rattle.rules.specs.Taking.{Out, cut, whole, after, walk, addItem, atEnd}
 use Rattle.rules.specs.Met.{At, Met, CutAt}
 use Rattle.rules.specs.declared.Head.{Head}
 use Rattle.rules.proofs.Heads.{fits, rest-length, value-length}
+use Rattle.rules.proofs.Walks.{walk-cut}
+use Rattle.rules.proofs.Mets.{walk-alone, walk-group, met-walk, add-number, made-items}
 use Rattle.rules.proofs.Rows.{Every, every-append, every-map}
 use Rattle.rules.proofs.Places.{Stand, stand-tail, stand-left, stand-right, Ranged, ranged}
 use Rattle.rules.proofs.Walked.{Walked, ends, alone, group, met-walked}
@@ -43,6 +46,33 @@ part-walked (here pos w) = ends
 part-walked (later h a e t) = alone h a e (part-walked t)
 part-walked (within h g a e t) = group h g a e (part-walked t) ends
 part-walked (behind h g a e d t) = group h g a e (met-walked d) (part-walked t)
+
+-- how many octets the level has left where it is cut
+unfoldable pub leftOf : {b : Book} {k v : ℕ} {m : List ℕ} {p n at : ℕ} {xs : List ℕ} {es : List Item} {q : ℕ} → Part b k v m p n at xs es q → ℕ
+leftOf (here {xs = xs} pos w) = length xs
+leftOf (later h a e t) = leftOf t
+leftOf (within h g a e t) = leftOf t
+leftOf (behind h g a e d t) = leftOf t
+
+-- its elements are those that the walk has gathered where it is cut
+pub part-walk : {b : Book} {k v : ℕ} {m : List ℕ} {p n at : ℕ} {xs : List ℕ} {es : List Item} {q : ℕ} → Part b k v m p n at xs es q → (o : ℕ) (s : List Item) → length s ≡ n
+    → walk b k (List Item) addItem atEnd length v m p o at xs s ≡ cut q (s ++ es)
+part-walk {b} {k} (here {v = v} {m = m} {p = p} {at = at} {xs = xs} pos w) o s c =
+    walk-cut b k (List Item) addItem atEnd length v m p o at xs s pos w ∙ ap (cut at) (sym (append-nil s))
+part-walk {b} {k} {q = q} (later {v = v} {m = m} {p = p} {at = at} {xs = xs} {es = es} h a e t) o s c =
+    let i = itemOf b k v m p at h in
+    walk-alone b k (List Item) addItem atEnd length add-number (λ s w m o. refl) v m p o at xs s h a e
+    ∙ part-walk t o (addItem s i) (omega (arith, add-number s i)) ∙ ap (cut q) (append-assoc s (i ∷ []) es)
+part-walk {b} {k} {q = q} (within {v = v} {m = m} {p = p} {at = at} {xs = xs} {is = is} h g a e t) o s c =
+    let i = itemOf b k v m p at h in
+    walk-group b k (List Item) addItem atEnd length add-number (λ s w m o. refl) v m p o at xs s h a g e
+    ∙ rw (c, part-walk t at (addItem s i) (omega (arith, add-number s i)), append-assoc s (i ∷ []) is, append-nil is)
+part-walk {b} {k} {q = q} (behind {v = v} {m = m} {p = p} {at = at} {xs = xs} {is = is} {es = es} h g a e d t) o s c =
+    let i = itemOf b k v m p at h in
+    let w = met-walk b k (List Item) addItem atEnd length add-number (λ s w m o. refl) d at (addItem s i) (omega (arith, add-number s i)) in
+    walk-group b k (List Item) addItem atEnd length add-number (λ s w m o. refl) v m p o at xs s h a g e
+    ∙ rw (c, w, made-items d at (addItem s i), append-assoc s (i ∷ []) is)
+    (part-walk t o (s ++ (i ∷ is)) (omega (arith, length-append s (i ∷ is))) ∙ ap (cut q) (append-assoc s (i ∷ is) es))
 
 -- ---- where q stands
 

@@ -1,7 +1,8 @@
 -- `clear_row` reads the numbers of the row, and clears what does not stay. Assumes nothing.
 use mathlib.Core.Path.{_∙_}
 use Rattle.masking.specs.Clearing.{clearedRow}
-use Rattle.masking.proofs.Opening.{open-most}
+use Rattle.facts.proofs.Facts.{open-most}
+use Rattle.masking.proofs.Opening.{open-by}
 use borrow.Author.Needs.{needs}
 use Rattle.masking.proofs.clear_row.Statement.{statement}
 use Rattle.masking.proofs.clear_row.Tie as tie
@@ -60,14 +61,16 @@ open-octets-requires c κs = search needs
 clear-value-requires : tie.Need-clear-value-requires
 clear-value-requires c κs =
     let s = c .before .before .before .before .before .before .before .before in
-    (rw (c .before .open-octets .ensures) (open-most _ _ _), s .pre .1 .ends)
+    (rw (open-by _ _ _ (s .pre .1 .typ) (s .pre .0) (c .before .open-octets .ensures)) (open-most _ _ _), s .pre .1 .ends)
 
 same-length : tie.Need-same-length
 same-length c = search needs
 
 returns : tie.Need-returns
 unfolding clearedRow
-returns c = c .before .before .clear-value .ensures ∙ rw (c .before .before .before .before .open-octets .ensures)
+returns c =
+    let s = c .before .before .before .before .before .before .before .before .before .before .before in
+    c .before .before .clear-value .ensures ∙ rw (open-by _ _ _ (s .pre .1 .typ) (s .pre .0) (c .before .before .before .before .open-octets .ensures))
 
 pub clear-row-spec : {M : Type 1} → statement M
 clear-row-spec =

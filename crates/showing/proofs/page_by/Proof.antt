@@ -13,19 +13,19 @@ slice-relend-prefix-copied-page : tie.Need-slice-relend-prefix-copied-page
 slice-relend-prefix-copied-page c = omega (arith, c .before .before .before .before .pre .0, ap length (c .before .before .before .before .pre .1), length-replicate {A = ℕ} 4097 0)
 
 slice-aggregate-copied-page : tie.Need-slice-aggregate-copied-page
-slice-aggregate-copied-page c = let s = c .before .before .before .before .before in sym (length-take-le (length (s .args .message .now)) (s .args .room .now) (omega (arith, s .pre .0, ap length (s .pre .1), length-replicate {A = ℕ} 4097 0)))
+slice-aggregate-copied-page c = sym (length-take-le (length (c .before .before .before .before .before .args .message .now)) (c .before .before .before .before .before .args .room .now) (omega (arith, c .before .before .before .before .before .pre .0, ap length (c .before .before .before .before .before .pre .1), length-replicate {A = ℕ} 4097 0)))
 
 copied-page-requires : tie.Need-copied-page-requires
-copied-page-requires c κs = let s = c .before .before .before .before .before .before in (s .pre .0, ap (take (length (s .args .message .now))) (s .pre .1) ∙ front-room (length (s .args .message .now)) 4097 (s .pre .0))
-
-returns : tie.Need-returns
-returns c = c .before .before .before .before .copied-page .ensures
+copied-page-requires c κs = ap (take (length (c .before .before .before .before .before .before .args .message .now))) (c .before .before .before .before .before .before .pre .1) ∙ front-room (length (c .before .before .before .before .before .before .args .message .now)) 4097 (c .before .before .before .before .before .before .pre .0)
 
 same-length : tie.Need-same-length
 same-length c = search needs
 
 same-length-2 : tie.Need-same-length-2
 same-length-2 c = search needs
+
+returns : tie.Need-returns
+returns c = c .before .before .before .before .copied-page .ensures
 
 pub page-by-spec : {M : Type 1} → statement M
 page-by-spec = tie.close (tie.spec slice-relend-prefix-copied-page slice-aggregate-copied-page copied-page-requires same-length same-length-2 returns)

@@ -1,0 +1,4 @@
+pub mod Ends
+pub mod Paging
+pub mod Lengths
+pub mod Reasons

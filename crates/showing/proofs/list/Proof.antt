@@ -1,0 +1,30 @@
+-- `list` writes the counts before the rows. Assumes nothing.
+use native.Mathlib.Omega.{arith}
+use Rattle.showing.proofs.Listing.{headed, listed}
+use borrow.Author.Needs.{needs}
+use Rattle.showing.proofs.list.Statement.{statement}
+use Rattle.showing.proofs.list.Tie as tie
+
+sub-decide : tie.Need-sub-decide
+sub-decide c = omega (arith, c .before .before .pre .size)
+
+part-decide-start : tie.Need-part-decide-start
+part-decide-start c = omega (arith, c .before .before .pre .size)
+
+part-decide-end : tie.Need-part-decide-end
+part-decide-end c = search needs
+
+decide-requires : tie.Need-decide-requires
+decide-requires c κs = search needs
+
+head-requires : tie.Need-head-requires
+head-requires c κs = let s = c .before .before .before .before .before .before .before .args in headed (s .table .now) (c .before .before .before .before .before .before .before .pre) (s .kind) (s .message .now) (c .before .before .before .decide .ensures)
+
+same-length : tie.Need-same-length
+same-length c = search needs
+
+returns : tie.Need-returns
+returns c = let s = c .before .before .before .before .before .before .before .before .before .before .before .args in listed (s .table .now) (c .before .before .before .before .before .before .before .before .before .before .before .pre) (s .kind) (s .message .now) (c .before .before .before .before .before .before .before .decide .ensures) (c .before .before .before .head .ensures)
+
+pub list-spec : {M : Type 1} → statement M
+list-spec = tie.close (tie.spec sub-decide part-decide-start part-decide-end decide-requires head-requires same-length returns)
