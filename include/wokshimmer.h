@@ -1,9 +1,9 @@
 /*
- * Wokshimmer: judges and masks GTPv2-C messages (3GPP TS 29.274).
+ * Wokshimmer: judges, masks and cleans GTPv2-C messages (3GPP TS 29.274).
  *
- * Both functions answer for every input and ask only this of their caller:
+ * All three functions answer for every input and ask only this of their caller:
  *   - each pointer is valid for the length that follows it, in octets; NULL is fine with length 0;
- *   - a buffer that is written (table, copy, five) overlaps nothing else that is passed.
+ *   - a buffer that is written (table, copy, five, clean, answer) overlaps nothing else that is passed.
  *   - the message does not change during a call, as a ring's buffer does that is refilled while it is read.
  * They keep nothing between calls, allocate nothing, call nothing but memset, and may be called from several threads at once.
  * For x86-64 alone. Stack: under 15 KiB a call, and on the first call about 2 KiB more where the loader binds memset late.
@@ -23,7 +23,7 @@ extern "C" {
 #define WOK_KIND_S4 2u
 #define WOK_KIND_S5_S8 3u
 
-/* Codes: the result of both functions, and the first of the five numbers. */
+/* Codes: the result of each function, and the first of the five numbers. */
 #define WOK_ACCEPTED 0u
 #define WOK_UNKNOWN_KIND 1u       /* the kind is not 1 to 3 */
 #define WOK_BAD_SIZE 2u           /* the message is empty or over 4,096 octets */
@@ -37,7 +37,7 @@ extern "C" {
 #define WOK_TABLE_SHORT 10u       /* judge: the table is too short for the rows */
 #define WOK_MANDATORY_SHORT 11u   /* a mandatory element is short; place, type, instance */
 #define WOK_MANDATORY_MISSING 12u /* a mandatory element is missing; place of the level, type, instance */
-#define WOK_COPY_SHORT 13u        /* mask: the copy buffer is shorter than the message */
+#define WOK_COPY_SHORT 13u        /* the buffer is too short for the copy: mask the message's length, clean the cleaned copy's */
 
 /* Reply causes: the second of the five numbers, or 0. */
 #define WOK_CAUSE_INVALID_LENGTH 67u
@@ -56,6 +56,7 @@ extern "C" {
 #define WOK_ROW_NUMBERS 6u        /* parent (0, or a row counted from 1), type, instance, value place, value length, standing */
 #define WOK_TABLE_OCTETS 12272u   /* a table that holds 1,022 rows: 2 * (4 + 6 * 1,022) */
 #define WOK_FIVE_OCTETS 10u       /* code, cause, place, type, instance */
+#define WOK_ANSWER_OCTETS 12u     /* clean: the five numbers, and the length of the cleaned copy */
 
 /*
  * Judges a message. Answers the code. On acceptance the table holds its header and one row an element, in octet order, depth first;
@@ -74,6 +75,18 @@ uint16_t wok_judge(uint32_t kind, const uint8_t *message, size_t message_len, ui
  * and table. Octets past the message's length stay; on a refusal the whole copy stays as it was. The five numbers as above.
  */
 uint16_t wok_mask(uint32_t kind, const uint8_t *message, size_t message_len, uint8_t *copy, size_t copy_len, uint8_t *five, size_t five_len);
+
+/*
+ * Makes a cleaned copy of a message, to forward: without the elements set aside (every standing but WOK_KEPT) at all levels, a set-aside group
+ * with all that is inside it; the lengths of the kept groups and of the header are put right, and every other octet is the message's own, in
+ * its order. It masks nothing: the subscriber's values are in it.
+ * Answers the code: 1 to 9, 11 and 12 as the judge does with a table that is large enough, then 13, or 0 where the copy is made; never 10. The
+ * copy, judged on the same kind, is accepted with every row kept, and cleaned again is the same. It is never longer than the message, so a
+ * buffer of the message's length is enough. Octets past the copy stay; on a refusal the whole buffer stays as it was.
+ * The five numbers and the copy's length (0 on a refusal) are written if their buffer has 12 octets or more; octets past 12 stay. A shorter
+ * buffer stays as it was, and stops no other write.
+ */
+uint16_t wok_clean(uint32_t kind, const uint8_t *message, size_t message_len, uint8_t *clean, size_t clean_len, uint8_t *answer, size_t answer_len);
 
 #ifdef __cplusplus
 }

@@ -1,5 +1,5 @@
 /*
- * Judge and mask on a thread with a small stack, on buffers of exact size that end right before a page that may not be touched and
+ * Judge, mask and clean on a thread with a small stack, on buffers of exact size that end right before a page that may not be touched and
  * then on ones that start right after such a page. Run from the folder that holds samples/.
  */
 #define _DEFAULT_SOURCE
@@ -20,23 +20,30 @@
 #define LEAST_LEFT 1024u /* octets of the stack that no call may write */
 #define MOST_A_LEVEL 512u
 
+enum { JUDGE, MASK, CLEAN, FUNCTIONS };
+
+typedef uint16_t function(uint32_t, const uint8_t *, size_t, uint8_t *, size_t, uint8_t *, size_t);
+static function *const functions[FUNCTIONS] = {wok_judge, wok_mask, wok_clean};
+static const char *const names[FUNCTIONS] = {"judge", "mask", "clean"};
+static const size_t number_octets[FUNCTIONS] = {WOK_FIVE_OCTETS, WOK_FIVE_OCTETS, WOK_ANSWER_OCTETS};
+
 struct call {
-    int masks;
+    int which;
     uint32_t kind;
     const uint8_t *message;
     size_t message_len;
     uint8_t *out;
     size_t out_len;
-    uint8_t *five;
-    size_t five_len;
+    uint8_t *numbers; /* the five, or the cleaner's six */
+    size_t numbers_len;
     uint16_t code;
     size_t used;    /* octets of the stack, from the caller's frame down to the lowest one written */
     size_t written; /* how many of these were written; the others were set aside only */
     size_t left;    /* octets of the stack below these */
 };
 
-static uint8_t *stack, *message_room, *out_room, *five_room;
-static size_t most_used[2][2], most_written[2][2]; /* by larger, masks */
+static uint8_t *stack, *message_room, *out_room, *numbers_room;
+static size_t most_used[2][FUNCTIONS], most_written[2][FUNCTIONS]; /* by larger */
 static size_t least_left = STACK_OCTETS;
 static unsigned passed, failed;
 
@@ -69,7 +76,7 @@ static uint8_t *exact(uint8_t *room, size_t len, int at_end) {
 static void *on_small_stack(void *argument) {
     struct call *c = argument;
     volatile uint8_t frame = 0;
-    c->code = (c->masks ? wok_mask : wok_judge)(c->kind, c->message, c->message_len, c->out, c->out_len, c->five, c->five_len);
+    c->code = functions[c->which](c->kind, c->message, c->message_len, c->out, c->out_len, c->numbers, c->numbers_len);
     size_t top = (size_t)((uintptr_t)&frame - (uintptr_t)stack);
     while (c->left < top && stack[c->left] == PATTERN) c->left++;
     c->used = top - c->left;
@@ -85,21 +92,29 @@ static void run(struct call *c) {
     if (pthread_create(&thread, &small, on_small_stack, c) != 0 || pthread_join(thread, NULL) != 0) fail("thread");
     pthread_attr_destroy(&small);
     int larger = c->message_len > SMALL_MESSAGE;
-    if (c->used > most_used[larger][c->masks]) most_used[larger][c->masks] = c->used;
-    if (c->written > most_written[larger][c->masks]) most_written[larger][c->masks] = c->written;
+    if (c->used > most_used[larger][c->which]) most_used[larger][c->which] = c->used;
+    if (c->written > most_written[larger][c->which]) most_written[larger][c->which] = c->written;
     if (c->left < least_left) least_left = c->left;
 }
 
+struct given {
+    const char *name;
+    uint32_t kind;
+    const uint8_t *message;
+    size_t len;
+    int at_end;
+};
+
 /* Runs a call on exact buffers filled with the pattern; the message's room is for reading only meanwhile. */
-static struct call on_exact(int masks, uint32_t kind, const uint8_t *message, size_t len, size_t out_len, int at_end) {
-    struct call c = {masks, kind, NULL, len, NULL, out_len, NULL, WOK_FIVE_OCTETS, 0, 0, 0, 0};
-    uint8_t *own = exact(message_room, len, at_end);
-    if (len != 0) memcpy(own, message, len);
+static struct call on_exact(int which, const struct given *g, size_t out_len, size_t numbers_len) {
+    struct call c = {which, g->kind, NULL, g->len, NULL, out_len, NULL, numbers_len, 0, 0, 0, 0};
+    uint8_t *own = exact(message_room, g->len, g->at_end);
+    if (g->len != 0) memcpy(own, g->message, g->len);
     c.message = own;
-    c.out = exact(out_room, out_len, at_end);
-    c.five = exact(five_room, c.five_len, at_end);
+    c.out = exact(out_room, out_len, g->at_end);
+    c.numbers = exact(numbers_room, numbers_len, g->at_end);
     memset(out_room, PATTERN, ROOM);
-    memset(five_room, PATTERN, ROOM);
+    memset(numbers_room, PATTERN, ROOM);
     if (mprotect(message_room, ROOM, PROT_READ) != 0) fail("read only");
     run(&c);
     if (mprotect(message_room, ROOM, PROT_READ | PROT_WRITE) != 0) fail("read and write");
@@ -117,43 +132,78 @@ static int rest_stays(const uint8_t *room, const uint8_t *buffer, size_t len) {
     return 1;
 }
 
+/* The code, and what was written: of the table or copy so many octets if it accepts, and the numbers whole or not at all. */
 static void check_call(const char *name, const struct call *c, const unsigned five[5], size_t written) {
-    int same = c->code == five[0];
-    for (size_t i = 0; i < 5; i++) same = same && number(c->five, i) == five[i];
-    check(same, name, c->masks ? "mask: other five numbers" : "judge: other five numbers");
+    size_t len = number_octets[c->which];
+    int whole = c->numbers_len >= len, same = c->code == five[0];
+    for (size_t i = 0; whole && i < 5; i++) same = same && number(c->numbers, i) == five[i];
+    if (whole && c->which == CLEAN) same = same && number(c->numbers, 5) == (c->code == WOK_ACCEPTED ? written : 0);
+    check(same, name, names[c->which]);
     check(rest_stays(out_room, c->out, c->code == WOK_ACCEPTED ? written : 0), name, "a write outside the table or copy");
-    check(rest_stays(five_room, c->five, WOK_FIVE_OCTETS), name, "a write outside the five numbers");
+    check(rest_stays(numbers_room, c->numbers, whole ? len : 0), name, "a write outside the numbers answered");
 }
 
-static void judge_exact(const char *name, uint32_t kind, const uint8_t *message, size_t len, const unsigned five[5], int at_end) {
+/* A call, checked. */
+static void try_call(int which, const struct given *g, size_t out_len, const unsigned five[5], size_t written) {
+    struct call c = on_exact(which, g, out_len, number_octets[which]);
+    check_call(g->name, &c, five, written);
+}
+
+static void judge_exact(const struct given *g, const unsigned five[5]) {
     static const unsigned table_short[5] = {WOK_TABLE_SHORT};
-    struct call c = on_exact(0, kind, message, len, WOK_TABLE_OCTETS, at_end);
-    check_call(name, &c, five, WOK_TABLE_OCTETS);
+    struct call c = on_exact(JUDGE, g, WOK_TABLE_OCTETS, WOK_FIVE_OCTETS);
+    check_call(g->name, &c, five, WOK_TABLE_OCTETS);
     if (c.code != WOK_ACCEPTED) return;
     size_t used = 2 * number(c.out, WOK_HEADER_NUMBERS - 1);
-    check(used == 2 * (WOK_HEADER_NUMBERS + WOK_ROW_NUMBERS * number(c.out, 0)), name, "numbers used do not match the rows");
-    check(rest_stays(out_room, c.out, used), name, "a write past the numbers used");
+    check(used == 2 * (WOK_HEADER_NUMBERS + WOK_ROW_NUMBERS * number(c.out, 0)), g->name, "numbers used do not match the rows");
+    check(rest_stays(out_room, c.out, used), g->name, "a write past the numbers used");
     if (used > WOK_TABLE_OCTETS) return;
-    c = on_exact(0, kind, message, len, used, at_end);
-    check_call(name, &c, five, used);
-    c = on_exact(0, kind, message, len, used - 1, at_end);
-    check_call(name, &c, table_short, 0);
+    try_call(JUDGE, g, used, five, used);
+    try_call(JUDGE, g, used - 1, table_short, 0);
 }
 
-static void mask_exact(const char *name, uint32_t kind, const uint8_t *message, size_t len, const unsigned five[5], int at_end) {
+static void mask_exact(const struct given *g, const unsigned five[5]) {
     static const unsigned accepted[5], copy_short[5] = {WOK_COPY_SHORT};
     int copied = five[0] == WOK_ACCEPTED || five[0] >= WOK_TABLE_SHORT;
-    struct call c = on_exact(1, kind, message, len, len, at_end);
-    check_call(name, &c, copied ? accepted : five, len);
-    if (!copied) return;
-    c = on_exact(1, kind, message, len, len - 1, at_end);
-    check_call(name, &c, copy_short, 0);
+    try_call(MASK, g, g->len, copied ? accepted : five, g->len);
+    if (copied) try_call(MASK, g, g->len - 1, copy_short, 0);
+}
+
+/* Answer buffers around 12 octets: too short for the numbers, they stay, and the copy is made all the same. */
+static void clean_answers(const struct given *g, const unsigned five[5], size_t out_len, size_t written) {
+    static const size_t lens[] = {0, WOK_ANSWER_OCTETS - 1, WOK_ANSWER_OCTETS, WOK_ANSWER_OCTETS + 3};
+    for (size_t i = 0; i < sizeof lens / sizeof lens[0]; i++) {
+        struct call c = on_exact(CLEAN, g, out_len, lens[i]);
+        check_call(g->name, &c, five, written);
+    }
+}
+
+/* The cleaner refuses as the judge does with the largest table. Else its copy goes into a buffer of its own length, and of no shorter one. */
+static void clean_exact(const struct given *g, const unsigned five[5]) {
+    static const unsigned copy_short[5] = {WOK_COPY_SHORT};
+    static uint8_t first[WOK_LARGEST_MESSAGE];
+    struct call c = on_exact(CLEAN, g, g->len, WOK_ANSWER_OCTETS);
+    size_t len = number(c.numbers, 5);
+    check_call(g->name, &c, five, len);
+    check(len <= g->len, g->name, "the cleaned copy is longer than the message");
+    clean_answers(g, five, len, len);
+    if (c.code != WOK_ACCEPTED || len > g->len) return;
+    c = on_exact(CLEAN, g, g->len + 1, WOK_ANSWER_OCTETS);
+    check_call(g->name, &c, five, len);
+    memcpy(first, c.out, len);
+    c = on_exact(CLEAN, g, len, WOK_ANSWER_OCTETS);
+    check_call(g->name, &c, five, len);
+    check(memcmp(first, c.out, len) == 0, g->name, "another cleaned copy in a buffer of its length");
+    try_call(CLEAN, g, len - 1, copy_short, 0);
+    try_call(CLEAN, g, 0, copy_short, 0);
 }
 
 static void try_message(const char *name, uint32_t kind, const uint8_t *message, size_t len, const unsigned five[5]) {
     for (int at_end = 1; at_end >= 0; at_end--) {
-        judge_exact(name, kind, message, len, five, at_end);
-        mask_exact(name, kind, message, len, five, at_end);
+        struct given g = {name, kind, message, len, at_end};
+        judge_exact(&g, five);
+        mask_exact(&g, five);
+        clean_exact(&g, five);
     }
 }
 
@@ -223,48 +273,49 @@ static void try_all_built(void) {
     try_message("empty", WOK_KIND_S11, full, 0, bad_size);
 }
 
+static void try_null(int which, const uint8_t *message, size_t len, int has_out, int has_numbers, uint16_t code, const char *what) {
+    static uint8_t out[WOK_TABLE_OCTETS], numbers[WOK_ANSWER_OCTETS];
+    uint8_t *lent = has_out ? out : NULL, *answered = has_numbers ? numbers : NULL;
+    struct call c = {which, WOK_KIND_S11, message, len, lent, has_out ? sizeof out : 0, answered, has_numbers ? number_octets[which] : 0, 0, 0, 0, 0};
+    run(&c);
+    check(c.code == code && (!has_numbers || number(numbers, 0) == code), names[which], what);
+}
+
 /* A NULL with length 0 for each pointer in turn, on a good message. */
 static void try_nulls(void) {
     static const uint8_t echo[] = {0x40, 1, 0, 9, 0, 0, 1, 0, 3, 0, 1, 0, 7};
-    static uint8_t out[WOK_TABLE_OCTETS], five[WOK_FIVE_OCTETS];
-    static const uint16_t out_short[2] = {WOK_TABLE_SHORT, WOK_COPY_SHORT};
-    for (int masks = 0; masks < 2; masks++) {
-        struct call c = {masks, WOK_KIND_S11, NULL, 0, out, sizeof out, five, sizeof five, 0, 0, 0, 0};
-        run(&c);
-        check(c.code == WOK_BAD_SIZE && number(five, 0) == WOK_BAD_SIZE, "NULL", "message");
-        c = (struct call){masks, WOK_KIND_S11, echo, sizeof echo, NULL, 0, five, sizeof five, 0, 0, 0, 0};
-        run(&c);
-        check(c.code == out_short[masks] && number(five, 0) == out_short[masks], "NULL", "table or copy");
-        c = (struct call){masks, WOK_KIND_S11, echo, sizeof echo, out, sizeof out, NULL, 0, 0, 0, 0, 0};
-        run(&c);
-        check(c.code == WOK_ACCEPTED, "NULL", "five");
-        c = (struct call){masks, WOK_KIND_S11, NULL, 0, NULL, 0, NULL, 0, 0, 0, 0, 0};
-        run(&c);
-        check(c.code == WOK_BAD_SIZE, "NULL", "all");
+    static const uint16_t out_short[FUNCTIONS] = {WOK_TABLE_SHORT, WOK_COPY_SHORT, WOK_COPY_SHORT};
+    for (int which = 0; which < FUNCTIONS; which++) {
+        try_null(which, NULL, 0, 1, 1, WOK_BAD_SIZE, "NULL for the message");
+        try_null(which, echo, sizeof echo, 0, 1, out_short[which], "NULL for the table or copy");
+        try_null(which, echo, sizeof echo, 1, 0, WOK_ACCEPTED, "NULL for the numbers");
+        try_null(which, NULL, 0, 0, 0, WOK_BAD_SIZE, "NULL for all");
     }
 }
 
 /* What one level of the listings takes: a message with a kept group, against one without. */
-static size_t level_octets(int masks) {
+static size_t level_octets(int which) {
     static const uint8_t without[] = {0x48, 66, 0, 8, 0, 0, 0, 1, 0, 0, 2, 0};
     static const uint8_t with[] = {0x48, 66, 0, 17, 0, 0, 0, 1, 0, 0, 2, 0, 93, 0, 5, 0, 73, 0, 1, 0, 5};
-    size_t out_len = masks ? sizeof with : WOK_TABLE_OCTETS;
-    size_t one = on_exact(masks, WOK_KIND_S11, without, sizeof without, out_len, 1).used;
-    size_t two = on_exact(masks, WOK_KIND_S11, with, sizeof with, out_len, 1).used;
-    check(one < two && two - one <= MOST_A_LEVEL, masks ? "mask" : "judge", "a level takes nothing, or too much");
-    return two - one;
+    size_t out_len = which == JUDGE ? WOK_TABLE_OCTETS : sizeof with;
+    struct given one = {"without", WOK_KIND_S11, without, sizeof without, 1}, two = {"with", WOK_KIND_S11, with, sizeof with, 1};
+    size_t less = on_exact(which, &one, out_len, number_octets[which]).used;
+    size_t more = on_exact(which, &two, out_len, number_octets[which]).used;
+    check(less < more && more - less <= MOST_A_LEVEL, names[which], "a level takes nothing, or too much");
+    return more - less;
 }
 
 static void print_stack(int larger, const char *which) {
-    printf("stack: %zu octets for judge, %zu octets for mask", most_used[larger][0], most_used[larger][1]);
-    printf(" (%s; written: %zu, %zu)\n", which, most_written[larger][0], most_written[larger][1]);
+    const size_t *used = most_used[larger], *written = most_written[larger];
+    printf("stack: %zu octets for judge, %zu octets for mask, %zu octets for clean", used[JUDGE], used[MASK], used[CLEAN]);
+    printf(" (%s; written: %zu, %zu, %zu)\n", which, written[JUDGE], written[MASK], written[CLEAN]);
 }
 
 int main(void) {
     stack = guarded(STACK_OCTETS);
     message_room = guarded(ROOM);
     out_room = guarded(ROOM);
-    five_room = guarded(ROOM);
+    numbers_room = guarded(ROOM);
     unsigned samples = try_samples();
     check(samples > 30, "samples", "too few");
     try_all_built();
@@ -273,7 +324,8 @@ int main(void) {
     printf("%u samples\n", samples);
     print_stack(0, "messages of up to 264 octets");
     print_stack(1, "larger messages");
-    printf("stack: a level of the listings takes %zu octets in judge, %zu in mask\n", level_octets(0), level_octets(1));
+    printf("stack: a level of the listings takes %zu octets in judge, ", level_octets(JUDGE));
+    printf("%zu in mask, %zu in clean\n", level_octets(MASK), level_octets(CLEAN));
     printf("stack: %zu of %u octets never written\n", least_left, STACK_OCTETS);
     printf("%u passed, %u failed\n", passed, failed);
     return failed != 0;

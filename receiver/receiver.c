@@ -5,11 +5,12 @@
  *   gcc -std=c99 -O2 -Iinclude -o receiver receiver/receiver.c target/staticlib/libwokshimmer.a -lpthread
  *
  * One port a kind, S11, S4 and S5/S8; 0, and no ports at all, let the system choose. The first line names the ports. Every datagram is
- * judged and masked; a line of counts comes every second and, on SIGTERM or SIGINT, a last one:
- *   counts|total datagrams N judge (by code, 0 to 13) mask (by code, 0 to 13) copy (octets of the last masked copy)
+ * judged, masked and cleaned; a line of counts comes every second and, on SIGTERM or SIGINT, a last one:
+ *   counts|total datagrams N judge (by code, 0 to 13) mask (by code, 0 to 13) clean (by code, 0 to 13)
+ *   copy (octets of the last masked copy) cleaned (octets of the last cleaned copy)
  *   dropped (datagrams that came and found the socket's buffer full)
- * With --answer each datagram is answered by the five numbers of the judge and of the mask. This is for tests, so the receiver then
- * listens on loopback only.
+ * With --answer each datagram is answered by the five numbers of the judge and of the mask, and by the cleaner's six. This is for tests,
+ * so the receiver then listens on loopback only.
  */
 #define _GNU_SOURCE
 
@@ -37,15 +38,21 @@ struct counts {
     unsigned long datagrams;
     unsigned long judge[CODES];
     unsigned long mask[CODES];
+    unsigned long clean[CODES];
     size_t copy_len;
+    size_t cleaned_len;
 };
 
 /* One octet more than the largest message: a longer datagram, cut to this, is still refused for its size. */
 static uint8_t message[WOK_LARGEST_MESSAGE + 1];
 static uint8_t table[WOK_TABLE_OCTETS];
-/* A refused message leaves the copy as it was, so this is always the last one made. */
+/* A refused message leaves both copies as they were, so each is always the last one made. */
 static uint8_t copy[WOK_LARGEST_MESSAGE];
-static uint8_t answer[2 * WOK_FIVE_OCTETS];
+static uint8_t cleaned[WOK_LARGEST_MESSAGE];
+/* What each of the three answers, one after the other. */
+static uint8_t answer[2 * WOK_FIVE_OCTETS + WOK_ANSWER_OCTETS];
+static uint8_t *const mask_five = answer + WOK_FIVE_OCTETS;
+static uint8_t *const clean_answer = answer + 2 * WOK_FIVE_OCTETS;
 
 static int answers;
 static struct pollfd ports[KINDS];
@@ -60,12 +67,20 @@ static void fail(const char *what) {
     exit(1);
 }
 
-static void count(uint16_t judged, uint16_t masked, size_t message_len) {
+/* The last of the cleaner's numbers. */
+static size_t clean_len(void) {
+    const uint8_t *len = clean_answer + WOK_FIVE_OCTETS;
+    return len[0] * 256u + len[1];
+}
+
+static void count(uint16_t judged, uint16_t masked, uint16_t clean, size_t message_len) {
     pthread_mutex_lock(&lock);
     counts.datagrams++;
     if (judged < CODES) counts.judge[judged]++;
     if (masked < CODES) counts.mask[masked]++;
+    if (clean < CODES) counts.clean[clean]++;
     if (masked == WOK_ACCEPTED) counts.copy_len = message_len;
+    if (clean == WOK_ACCEPTED) counts.cleaned_len = clean_len();
     pthread_mutex_unlock(&lock);
 }
 
@@ -76,8 +91,9 @@ static void take(int port, uint32_t kind) {
     if (received < 0) return; /* such as a datagram with a bad checksum */
     size_t len = (size_t)received;
     uint16_t judged = wok_judge(kind, message, len, table, sizeof table, answer, WOK_FIVE_OCTETS);
-    uint16_t masked = wok_mask(kind, message, len, copy, sizeof copy, answer + WOK_FIVE_OCTETS, WOK_FIVE_OCTETS);
-    count(judged, masked, len);
+    uint16_t masked = wok_mask(kind, message, len, copy, sizeof copy, mask_five, WOK_FIVE_OCTETS);
+    uint16_t clean = wok_clean(kind, message, len, cleaned, sizeof cleaned, clean_answer, WOK_ANSWER_OCTETS);
+    count(judged, masked, clean, len);
     /* An answer that cannot be sent is the sender's loss. */
     if (answers) (void)sendto(port, answer, sizeof answer, MSG_DONTWAIT, (struct sockaddr *)&sender, sender_len);
 }
@@ -108,17 +124,22 @@ static unsigned long dropped(int port) {
     return memory[SK_MEMINFO_DROPS];
 }
 
+static void print_codes(const char *name, const unsigned long codes[CODES]) {
+    printf(" %s", name);
+    for (int code = 0; code < CODES; code++) printf(" %lu", codes[code]);
+}
+
 static void print_counts(const char *name) {
     pthread_mutex_lock(&lock);
     struct counts now = counts;
     pthread_mutex_unlock(&lock);
-    printf("%s datagrams %lu judge", name, now.datagrams);
-    for (int code = 0; code < CODES; code++) printf(" %lu", now.judge[code]);
-    printf(" mask");
-    for (int code = 0; code < CODES; code++) printf(" %lu", now.mask[code]);
+    printf("%s datagrams %lu", name, now.datagrams);
+    print_codes("judge", now.judge);
+    print_codes("mask", now.mask);
+    print_codes("clean", now.clean);
     unsigned long lost = 0;
     for (int i = 0; i < KINDS; i++) lost += dropped(ports[i].fd);
-    printf(" copy %lu dropped %lu\n", (unsigned long)now.copy_len, lost);
+    printf(" copy %lu cleaned %lu dropped %lu\n", (unsigned long)now.copy_len, (unsigned long)now.cleaned_len, lost);
     fflush(stdout);
 }
 

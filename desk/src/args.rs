@@ -8,6 +8,23 @@ pub enum Command {
     Show,
     Judge,
     Mask,
+    Clean,
+}
+
+impl Command {
+    /// Whether it writes copies.
+    pub fn copies(self) -> bool {
+        matches!(self, Command::Mask | Command::Clean)
+    }
+
+    /// What is done to a message that has a copy.
+    pub fn done(self) -> &'static str {
+        match self {
+            Command::Clean => "cleaned",
+            Command::Mask => "masked",
+            Command::Judge | Command::Show => "shown",
+        }
+    }
 }
 
 #[derive(Clone, Copy, PartialEq, Debug)]
@@ -57,6 +74,7 @@ fn help_on(command: Command) -> &'static str {
         Command::Show => help::SHOW,
         Command::Judge => help::JUDGE,
         Command::Mask => help::MASK,
+        Command::Clean => help::CLEAN,
     }
 }
 
@@ -80,6 +98,7 @@ pub fn parse(words: Vec<OsString>) -> Result<Args, Instead> {
         "show" => Command::Show,
         "judge" => Command::Judge,
         "mask" => Command::Mask,
+        "clean" => Command::Clean,
         "-h" | "--help" | "help" => return Err(Instead::Say(help::ALL.into())),
         "--version" => return Err(Instead::Say(version())),
         "" => return refuse("no command"),
@@ -130,8 +149,8 @@ fn option(args: &mut Args, text: &str, words: &mut dyn Iterator<Item = OsString>
         (Command::Show, "--long") => args.long = true,
         (Command::Show, "--json") => args.form = Form::Json,
         (Command::Show, "--csv") => args.form = Form::Csv,
-        (Command::Mask, "--hex") => args.hex = true,
-        (Command::Mask, "-o") => args.out = Some(value()?),
+        (Command::Mask | Command::Clean, "--hex") => args.hex = true,
+        (Command::Mask | Command::Clean, "-o") => args.out = Some(value()?),
         (_, "--port") => args.port = number(name, value()?)?,
         (_, "--message") => args.message = Some(number(name, value()?)?),
         _ => return refuse(format!("no option '{name}' here")),
@@ -159,8 +178,9 @@ fn operated(mut args: Args, operands: Vec<OsString>) -> Result<Args, Instead> {
     if args.files.iter().filter(|f| *f == "-").count() > 1 {
         return refuse("- more than once");
     }
-    if args.command == Command::Mask && args.files.len() > 1 && !args.hex {
-        return refuse("mask takes one FILE, or several with --hex");
+    if args.command.copies() && args.files.len() > 1 && !args.hex {
+        let name = if args.command == Command::Clean { "clean" } else { "mask" };
+        return refuse(format!("{name} takes one FILE, or several with --hex"));
     }
     Ok(args)
 }

@@ -3,7 +3,8 @@
 pub const ALL: &str = "\
 usage: wok show KIND FILE...    the message in words: verdict, rows, names and values
        wok judge KIND FILE...   the verdict, and the rows of an accepted message, in numbers
-       wok mask KIND FILE...    the masked copy
+       wok mask KIND FILE...    the masked copy, for people outside
+       wok clean KIND FILE...   the cleaned copy, to forward; it masks nothing
        wok COMMAND --help       more on one of them
        wok --version            the tool and the rules
 
@@ -13,7 +14,7 @@ KIND is S11, S4 or S5/S8 (S5 and S8 will do). FILE is - for standard input, and 
   one message in raw octets
 --message N takes the N-th message alone. Names that begin with - stand after --.
 
-Exit status: 0 accepted or masked, 1 refused (or one of several was), 2 bad use, or a file that can't be read or written.
+Exit status: 0 accepted, masked or cleaned, 1 refused (or one of several was), 2 bad use, or a file that can't be read or written.
 ";
 
 pub const SHOW: &str = "\
@@ -48,4 +49,19 @@ Made zero: IMSI, MSISDN, MEI, user location, PCO and private extensions whole; t
 not listed or repeated.
 NOT made zero: APN, TEIDs, addresses of gateways (F-TEID, and the packets' own), traffic filters, time zone, serving network, charging
 identities, trace references, lengths, the sequence number.
+";
+
+pub const CLEAN: &str = "\
+usage: wok clean [--hex] [-o OUT] [--message N] [--port N] KIND FILE   (several FILEs with --hex)
+
+A copy without the elements that are set aside (not listed, repeated or short), at all levels, with the lengths of groups and of the header
+put right, for a gateway that takes no others; to standard output, or to OUT. Where no row is set aside, the copy is the message, and
+standard error says so.
+A capture gives a capture: the same packets with cleaned messages, times and addresses kept, the lengths and checksums of IP and UDP made
+right. Packets with no message, fragments, and messages that are refused are left out; the latter are listed with the reason, and the exit
+status is 1.
+  --hex   as hex text that text2pcap reads
+
+Cleaning masks NOTHING: the subscriber's values are in the copy. It is for forwarding, not for the support desk or people outside: for these
+there is wok mask.
 ";

@@ -9,6 +9,8 @@ pub struct Datagram {
     pub from_port: u16,
     pub to: IpAddr,
     pub to_port: u16,
+    /// where the IP header begins, in the packet
+    pub ip: usize,
     /// the UDP header and the payload, in the packet
     pub udp: Range<usize>,
 }
@@ -87,7 +89,7 @@ fn find_ipv4(packet: &[u8], at: usize, port: u16) -> Option<Found> {
     let end = at + two(head, 2)? as usize;
     let from = IpAddr::V4(Ipv4Addr::new(head[12], head[13], head[14], head[15]));
     let to = IpAddr::V4(Ipv4Addr::new(head[16], head[17], head[18], head[19]));
-    find_udp(packet, at + header, end, from, to, port)
+    find_udp(packet, at, at + header..end, from, to, port)
 }
 
 fn find_ipv6(packet: &[u8], at: usize, port: u16) -> Option<Found> {
@@ -97,7 +99,7 @@ fn find_ipv6(packet: &[u8], at: usize, port: u16) -> Option<Found> {
     let (from, to, mut next, mut to_next) = (address(8), address(24), head[6], at + 40);
     loop {
         match next {
-            17 => return find_udp(packet, to_next, end, from, to, port),
+            17 => return find_udp(packet, at, to_next..end, from, to, port),
             44 => {
                 // a fragment header of a whole datagram has offset 0 and no more to come
                 if two(packet, to_next + 2)? & 0xfff9 != 0 {
@@ -115,16 +117,18 @@ fn find_ipv6(packet: &[u8], at: usize, port: u16) -> Option<Found> {
     }
 }
 
-fn find_udp(packet: &[u8], at: usize, end: usize, from: IpAddr, to: IpAddr, port: u16) -> Option<Found> {
+/// The datagram in what the IP header, which begins at `ip`, says that it holds.
+fn find_udp(packet: &[u8], ip: usize, held: Range<usize>, from: IpAddr, to: IpAddr, port: u16) -> Option<Found> {
+    let at = held.start;
     let (from_port, to_port) = (two(packet, at)?, two(packet, at + 2)?);
     if from_port != port && to_port != port {
         return Some(Found::Other);
     }
     let stop = at + two(packet, at + 4)? as usize;
-    if stop < at + 8 || stop > end || stop > packet.len() {
+    if stop < at + 8 || stop > held.end || stop > packet.len() {
         return Some(Found::Cut);
     }
-    Some(Found::Datagram(Datagram { from, from_port, to, to_port, udp: at..stop }))
+    Some(Found::Datagram(Datagram { from, from_port, to, to_port, ip, udp: at..stop }))
 }
 
 fn sum(total: u32, octets: &[u8]) -> u32 {
@@ -142,14 +146,42 @@ pub fn set_checksum(packet: &mut [u8], d: &Datagram) {
         IpAddr::V4(a) => sum(t, &a.octets()),
         IpAddr::V6(a) => sum(t, &a.octets()),
     };
-    let mut total = addresses(addresses(17 + d.udp.len() as u32, &d.from), &d.to);
-    total = sum(total, &packet[d.udp.clone()]);
-    while total > 0xffff {
-        total = (total & 0xffff) + (total >> 16);
-    }
-    let checksum = match !(total as u16) {
+    let total = addresses(addresses(17 + d.udp.len() as u32, &d.from), &d.to);
+    let checksum = match complement(sum(total, &packet[d.udp.clone()])) {
         0 => 0xffff,
         c => c,
     };
-    packet[at..at + 2].copy_from_slice(&checksum.to_be_bytes());
+    put(packet, at, checksum.into());
+}
+
+/// The checksum of a sum.
+fn complement(mut total: u32) -> u16 {
+    while total > 0xffff {
+        total = (total & 0xffff) + (total >> 16);
+    }
+    !(total as u16)
+}
+
+fn put(packet: &mut [u8], at: usize, number: usize) {
+    packet[at..at + 2].copy_from_slice(&(number as u16).to_be_bytes());
+}
+
+/// The packet with another payload, not longer than its own: the lengths and checksums of IP and UDP are made right, and the packet ends with
+/// the datagram.
+pub fn with_payload(packet: &[u8], d: &Datagram, payload: &[u8]) -> Vec<u8> {
+    let mut out = [&packet[..d.udp.start + 8], payload].concat();
+    let d = Datagram { udp: d.udp.start..out.len(), ..*d };
+    put(&mut out, d.udp.start + 4, d.udp.len());
+    let of_ip = d.udp.end - d.ip;
+    if d.from.is_ipv4() {
+        put(&mut out, d.ip + 2, of_ip);
+        put(&mut out, d.ip + 10, 0);
+        let header = d.ip..d.ip + 4 * (out[d.ip] & 15) as usize;
+        let checksum = complement(sum(0, &out[header]));
+        put(&mut out, d.ip + 10, checksum.into());
+    } else {
+        put(&mut out, d.ip + 4, of_ip - 40);
+    }
+    set_checksum(&mut out, &d);
+    out
 }

@@ -1,7 +1,8 @@
-//! The commands. Status: 0 accepted or masked, 1 refused, 2 bad use or a file that cannot be read or written.
+//! The commands. Status: 0 accepted, masked or cleaned, 1 refused, 2 bad use or a file that cannot be read or written.
 
 use crate::args::{self, Args, Command, Form, Instead};
 use crate::capture::{self, Capture, Message};
+use crate::clean::{self, Unchanged};
 use crate::forms::{self, Origin, View};
 use crate::input::{self, Content};
 use crate::library::Library;
@@ -22,7 +23,8 @@ pub fn run(words: Vec<OsString>) -> u8 {
             2
         }
         Ok(args) => {
-            let mut job = Job { library: Library::new(args.kind), out: vec![], status: 0, shown: 0, colour: coloured(), args };
+            let mut job =
+                Job { library: Library::new(args.kind), out: vec![], status: 0, shown: 0, colour: coloured(), unchanged: Unchanged::default(), args };
             job.files();
             job.finish()
         }
@@ -60,6 +62,7 @@ struct Job {
     status: u8,
     shown: usize,
     colour: bool,
+    unchanged: Unchanged,
 }
 
 impl Job {
@@ -86,11 +89,14 @@ impl Job {
                 Ok(Content::Messages(messages)) => self.messages(&name, &messages),
                 Ok(Content::Capture(capture)) => self.capture(&name, &capture),
             }
+            if let Some(sentence) = std::mem::take(&mut self.unchanged).sentence() {
+                say(format!("{name}: {sentence}"));
+            }
         }
     }
 
     fn finish(self) -> u8 {
-        if self.args.command == Command::Mask && self.out.is_empty() {
+        if self.args.command.copies() && self.out.is_empty() {
             return self.status;
         }
         write_out(&self.out, self.args.out.as_ref(), self.status)
@@ -118,7 +124,7 @@ impl Job {
         if !self.there(name, messages.len()) {
             return;
         }
-        if many && self.args.command == Command::Mask && !self.args.hex {
+        if many && self.args.command.copies() && !self.args.hex {
             return self.fail(format!("{name} has {} messages: give --hex, or --message N", messages.len()));
         }
         for (number, message) in self.wanted(messages) {
@@ -129,8 +135,8 @@ impl Job {
 
     /// One message, whatever it came in.
     fn message(&mut self, origin: &Origin, heading: Option<String>, message: &[u8]) {
-        let plain = self.args.form == Form::Page && self.args.command != Command::Mask;
-        if self.shown > 0 && (plain || self.args.hex) {
+        let plain = self.args.form == Form::Page && !self.args.command.copies();
+        if self.shown > 0 && plain {
             self.out.push(b'\n');
         }
         self.shown += 1;
@@ -146,7 +152,7 @@ impl Job {
                 }
             }
             Command::Show => self.show(origin, message),
-            Command::Mask => self.mask(origin, message),
+            Command::Mask | Command::Clean => self.copy(origin, message),
         }
     }
 
@@ -188,12 +194,25 @@ impl Job {
         }
     }
 
-    fn mask(&mut self, origin: &Origin, message: &[u8]) {
-        let mut copy = vec![0; message.len()];
-        if self.library.mask(message, &mut copy).is_err() {
-            return self.left_out(origin, message);
+    /// The masked or the cleaned copy of a message, if it has one.
+    fn copied(&mut self, message: &[u8]) -> Option<Vec<u8>> {
+        if self.args.command == Command::Clean {
+            let copy = clean::cleaned(self.args.kind, message).ok()?;
+            self.unchanged.count(message, &copy);
+            return Some(copy);
         }
+        let mut copy = vec![0; message.len()];
+        self.library.mask(message, &mut copy).ok()?;
+        Some(copy)
+    }
+
+    fn copy(&mut self, origin: &Origin, message: &[u8]) {
+        let Some(copy) = self.copied(message) else { return self.left_out(origin, message) };
         if self.args.hex {
+            // a blank line between copies, and none for a message that has no copy
+            if !self.out.is_empty() {
+                self.out.push(b'\n');
+            }
             self.out.extend(forms::dump(&copy).bytes());
         } else if self.args.out.is_none() && std::io::stdout().is_terminal() {
             self.fail("raw octets do not go to a terminal: give -o OUT or --hex");
@@ -202,11 +221,11 @@ impl Job {
         }
     }
 
-    /// Says why a message has no masked copy, in the library's words.
+    /// Says why a message has no copy, in the library's words.
     fn left_out(&mut self, origin: &Origin, message: &[u8]) {
         let sentence = forms::words(self.library.show(false, false, message)).1.to_owned();
         let packet = origin.packet.map_or(String::new(), |m| format!(" (packet {})", m.packet_number));
-        say(format!("{}: message {}{packet} is not masked: {sentence}", origin.file, origin.number));
+        say(format!("{}: message {}{packet} is not {}: {sentence}", origin.file, origin.number, self.args.command.done()));
         self.refused();
     }
 
@@ -228,8 +247,8 @@ impl Job {
         if !self.there(name, count) {
             return;
         }
-        if self.args.command == Command::Mask && !self.args.hex {
-            return self.mask_capture(name, capture);
+        if self.args.command.copies() && !self.args.hex {
+            return self.copy_capture(name, capture);
         }
         let many = self.args.message.is_none() || self.args.files.len() > 1;
         let lines = self.args.command == Command::Show && self.args.form == Form::Page && self.args.message.is_none();
@@ -253,8 +272,8 @@ impl Job {
         }
     }
 
-    /// The same packets with masked messages.
-    fn mask_capture(&mut self, name: &str, capture: &Capture) {
+    /// The same packets with the copies of their messages.
+    fn copy_capture(&mut self, name: &str, capture: &Capture) {
         if self.args.out.is_none() && std::io::stdout().is_terminal() {
             return self.fail("a capture does not go to a terminal: give -o OUT or --hex");
         }
@@ -262,27 +281,31 @@ impl Job {
             say(format!("{name}: packets with no message on UDP port {} are left out: {}", self.args.port, capture.others));
         }
         self.out = capture::file_header(capture.link);
-        let mut copy = vec![];
         let mut progress = Progress::new(capture.messages.len());
         for (number, m) in self.wanted(&capture.messages) {
             progress.at(number);
-            copy.clear();
-            copy.resize(m.octets().len(), 0);
-            if self.library.mask(m.octets(), &mut copy).is_err() {
+            let Some(copy) = self.copied(m.octets()) else {
                 self.left_out(&Origin { file: name, kind: "", number, packet: Some(m) }, m.octets());
                 continue;
-            }
-            let mut packet = m.packet.clone();
-            packet[m.datagram.payload()].copy_from_slice(&copy);
-            // what a short frame is filled up with is none of the message
-            packet[m.datagram.udp.end..].fill(0);
-            packet::set_checksum(&mut packet, &m.datagram);
+            };
+            let packet =
+                if self.args.command == Command::Clean { packet::with_payload(&m.packet, &m.datagram, &copy) } else { masked_packet(m, &copy) };
             capture::add_packet(&mut self.out, m, &packet);
         }
         if self.out.len() == capture::file_header(capture.link).len() {
             self.out.clear();
         }
     }
+}
+
+/// The packet of a masked message, which is as long as it was.
+fn masked_packet(m: &Message, copy: &[u8]) -> Vec<u8> {
+    let mut packet = m.packet.clone();
+    packet[m.datagram.payload()].copy_from_slice(copy);
+    // what a short frame is filled up with is none of the message
+    packet[m.datagram.udp.end..].fill(0);
+    packet::set_checksum(&mut packet, &m.datagram);
+    packet
 }
 
 fn same_file(a: &OsString, b: &OsString) -> bool {

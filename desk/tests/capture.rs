@@ -184,6 +184,62 @@ fn masked_capture() {
     }
 }
 
+/// The one's complement sum over octets.
+fn sum_of(octets: &[u8]) -> u32 {
+    let total: u32 = octets.chunks(2).map(|p| u32::from(p[0]) << 8 | u32::from(*p.get(1).unwrap_or(&0))).sum();
+    (total & 0xffff) + (total >> 16)
+}
+
+/// Packets of every sort with a message from which 6 octets go, and one that is refused: what comes out has lengths and checksums that are right
+/// for the copy and nothing else that is new.
+#[test]
+fn cleaned_capture() {
+    let m = octets("40 01 000f 000001 00 0300010007 c8000200 1234");
+    let clean = octets("40 01 0009 000001 00 0300010007");
+    let short = octets("40 01 0008 000001 00 03000000"); // 3/0 is mandatory and short
+    let mut none = ipv4(&udp(&m, 2123, 2123), 0);
+    none[26..28].fill(0); // no checksum
+    let mut options = ipv4(&[&[1; 8], &udp(&m, 2123, 2123)[..]].concat(), 0); // an IPv4 header of 28 octets
+    options[0] = 0x47;
+    let padded = [ethernet(&ipv4(&udp(&m, 2123, 2123), 0x4000), &[0x8100, 5]), vec![0xaa; 6]].concat();
+    let atomic = [17, 0, 0, 0, 0, 0, 0, 9];
+    let packets = [
+        ethernet(&ipv6(&udp(&m, 2123, 9), &[]), &[]),
+        ethernet(&ipv6(&udp(&m, 9, 2123), &atomic), &[]),
+        ethernet(&ipv4(&udp(&short, 2123, 2123), 0), &[]),
+        padded,
+        ethernet(&none, &[]),
+        ethernet(&options, &[]),
+        ethernet(&ipv4(&udp(&clean, 2123, 2123), 0), &[]),
+        vec![9; 40],
+    ];
+    let (input, output) = (kept("clean-in.pcap", &file(1, &packets)), PathBuf::from(env!("CARGO_TARGET_TMPDIR")).join("clean-out.pcap"));
+    let ran = wok(&["clean", "S11", input.to_str().unwrap(), "-o", output.to_str().unwrap()]);
+    let said = String::from_utf8(ran.stderr).unwrap();
+    assert_eq!((ran.status.code(), ran.stdout.len()), (Some(1), 0), "{said}");
+    assert!(said.contains("message 3 (packet 3) is not cleaned: refused by check 11"), "{said}");
+    assert!(said.contains("no row is set aside in 1 of 6 messages"), "{said}");
+    let read = capture::read(&std::fs::read(&output).unwrap(), 2123).unwrap();
+    assert_eq!(read.messages.len(), 6);
+    for (cleaned, number) in read.messages.iter().zip([0, 1, 3, 4, 5, 6]) {
+        let (d, packet, before) = (&cleaned.datagram, &cleaned.packet, &packets[number]);
+        assert_eq!(cleaned.octets(), clean, "packet {}", number + 1);
+        assert_eq!((d.udp.end, cleaned.seconds), (packet.len(), 1_700_000_000 + number as i64));
+        let of_ip = packet.len() - d.ip;
+        let (at, length) = if d.from.is_ipv4() { (d.ip + 2, of_ip) } else { (d.ip + 4, of_ip - 40) };
+        assert_eq!(usize::from(u16::from_be_bytes([packet[at], packet[at + 1]])), length);
+        assert!(d.from.is_ipv6() || sum_of(&packet[d.ip..d.udp.start]) == 0xffff);
+        assert!(if number == 4 { packet[d.udp.start + 6..d.udp.start + 8] == [0, 0] } else { summed(d, packet) == 0xffff });
+        let same = |from: usize, to: usize| packet[from..to] == before[from..to];
+        let checksum = if d.from.is_ipv4() { d.ip + 10 } else { at };
+        assert!(same(0, at) && same(at + 2, checksum.max(at + 2)) && same(checksum + 2, d.udp.start + 4), "packet {}", number + 1);
+    }
+    if installed("tshark") {
+        let seen = Command::new("tshark").args(["-r", output.to_str().unwrap(), "-T", "fields", "-e", "gtpv2.message_type"]).output().unwrap();
+        assert_eq!(String::from_utf8_lossy(&seen.stdout).lines().filter(|l| *l == "1").count(), 6);
+    }
+}
+
 #[test]
 fn shown_capture() {
     let m = message();

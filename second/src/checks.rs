@@ -1,37 +1,28 @@
 //! The checks. Each is made by itself; which of those that apply is given, the
 //! order in the rules says.
 
-use crate::rules::{Check, Message, Order, Rules};
+use crate::rules::{Check, Listed, Message, Order, Rules};
 use crate::verdict::Verdict;
 use crate::walk::{Row, Walk};
 
-/// Lengths of what is lent: the table in numbers, the copy in octets.
-#[derive(Debug, Clone, Copy)]
-pub struct Lent {
-    pub table: usize,
-    pub copy: usize,
-}
-
 impl Rules {
     /// The rows of a message to which none of these checks applies, or the
-    /// refusal by the first that does.
+    /// refusal by the first that does. What is lent bears on checks of its own:
+    /// `lent` answers their faults for the message walked.
     pub(crate) fn checked(
         &self,
         order: &Order,
         kind: u32,
         message: &[u8],
-        lent: Lent,
+        lent: impl FnOnce(&Walk) -> u16,
     ) -> Result<Vec<Row>, Verdict> {
         let header = Header::new(self, kind, message);
         let mut faults = header.faults;
         if let Some(check) = order.first_before_the_walk(faults) {
             return Err(self.refusal(check));
         }
-        let listing = header.listed.map_or(&[][..], |listed| &listed.body);
-        let walk = Walk::new(self, kind, message, listing, header.body);
-        faults |= fault(Check::Framing, walk.broken.is_some())
-            | fault(Check::TableRoom, lent.table < self.used(walk.rows.len()))
-            | fault(Check::CopyRoom, lent.copy < message.len());
+        let walk = Walk::new(self, kind, message, header.listing(), header.body);
+        faults |= fault(Check::Framing, walk.broken.is_some()) | lent(&walk);
         if order.has(Check::Short) {
             faults |= fault(Check::Short, walk.first_short().is_some());
         }
@@ -64,21 +55,26 @@ impl Rules {
 }
 
 /// The bit of a check, if it applies.
-fn fault(check: Check, applies: bool) -> u16 {
+pub fn fault(check: Check, applies: bool) -> u16 {
     u16::from(applies) << check as u16
 }
 
 /// What kind and header say.
-struct Header<'r> {
+pub struct Header<'r> {
     /// The listed message of its type, if there is one.
     listed: Option<&'r Message>,
     /// Where the first element begins.
-    body: usize,
+    pub body: usize,
     faults: u16,
 }
 
 impl<'r> Header<'r> {
-    fn new(rules: &'r Rules, kind: u32, message: &[u8]) -> Self {
+    /// What the message lists in its body.
+    pub fn listing(&self) -> &'r [Listed] {
+        self.listed.map_or(&[], |listed| &listed.body)
+    }
+
+    pub fn new(rules: &'r Rules, kind: u32, message: &[u8]) -> Self {
         let Rules { bits, sizes, .. } = rules;
         let length = message.len();
         // A message without a first octet has no version that could be wrong.

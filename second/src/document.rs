@@ -21,6 +21,7 @@ pub static DOCUMENT: LazyLock<Rules> = LazyLock::new(|| Rules {
     },
     sizes: sizes(),
     checks: checks(),
+    cleaned: [true, false, false, false],
     lookups: Lookups {
         parent: 0,
         standing: 0,
@@ -38,6 +39,7 @@ fn sizes() -> Sizes {
         table_header: 4,
         row: 6,
         five: 10,
+        answer: 12,
         most_rows: 1022,
     }
 }
@@ -60,6 +62,7 @@ fn checks() -> Checks {
     Checks {
         judge: Order::new(&[&framing[..], &[TableRoom, Short, Missing]].concat()),
         mask: Order::new(&[&framing[..], &[CopyRoom]].concat()),
+        clean: Order::new(&[&framing[..], &[Short, Missing, CopyRoom]].concat()),
         causes,
     }
 }

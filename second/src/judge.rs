@@ -1,9 +1,9 @@
 //! The judge: its checks, and the table on acceptance.
 
-use crate::checks::Lent;
-use crate::rules::Rules;
+use crate::checks::fault;
+use crate::rules::{Check, Rules};
 use crate::verdict::Verdict;
-use crate::walk::Row;
+use crate::walk::{Row, Walk};
 
 impl Rules {
     /// Judges one whole message. The table is written only on acceptance.
@@ -24,10 +24,7 @@ impl Rules {
         message: &[u8],
         room: usize,
     ) -> Result<Vec<Row>, Verdict> {
-        let lent = Lent {
-            table: room,
-            copy: usize::MAX,
-        };
+        let lent = |walk: &Walk| fault(Check::TableRoom, room < self.used(walk.rows.len()));
         self.checked(&self.checks.judge, kind, message, lent)
     }
 }

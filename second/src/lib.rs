@@ -1,4 +1,4 @@
-//! Independent second program for the GTPv2-C judge and masker.
+//! Independent second program for the GTPv2-C judge, masker and cleaner.
 //!
 //! It is written from the document alone and serves as a comparison, for
 //! correctness and for speed. `rules` is the shape of the rules and `document`
@@ -6,6 +6,7 @@
 //! of `Rules`. The functions here go by the document's own figures.
 
 mod checks;
+mod clean;
 mod document;
 mod framing;
 pub mod generate;
@@ -23,7 +24,7 @@ pub mod walk;
 
 pub use document::DOCUMENT;
 pub use rules::Rules;
-pub use verdict::Verdict;
+pub use verdict::{Answer, Verdict};
 
 /// Judges one whole message.
 pub fn judge(kind: u32, message: &[u8], table: &mut [u16]) -> Verdict {
@@ -35,6 +36,11 @@ pub fn mask(kind: u32, message: &[u8], copy: &mut [u8]) -> Verdict {
     DOCUMENT.mask(kind, message, copy)
 }
 
+/// Writes the cleaned copy of a message.
+pub fn clean(kind: u32, message: &[u8], clean: &mut [u8]) -> Answer {
+    DOCUMENT.clean(kind, message, clean)
+}
+
 /// The judge for the C receiver.
 pub fn judge_octets(kind: u32, message: &[u8], table: &mut [u8], five: &mut [u8]) -> u16 {
     DOCUMENT.judge_octets(kind, message, table, five)
@@ -43,6 +49,11 @@ pub fn judge_octets(kind: u32, message: &[u8], table: &mut [u8], five: &mut [u8]
 /// The masker for the C receiver.
 pub fn mask_octets(kind: u32, message: &[u8], copy: &mut [u8], five: &mut [u8]) -> u16 {
     DOCUMENT.mask_octets(kind, message, copy, five)
+}
+
+/// The cleaner for the C receiver.
+pub fn clean_octets(kind: u32, message: &[u8], clean: &mut [u8], answer: &mut [u8]) -> u16 {
+    DOCUMENT.clean_octets(kind, message, clean, answer)
 }
 
 /// The plain lookup; the empty part where there is none.

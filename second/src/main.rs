@@ -9,7 +9,7 @@ use second::generate::{Case, Generator};
 use second::rules::{Cover, Least};
 use second::{lines, DOCUMENT};
 
-const USAGE: &str = "usage: second judge | mask | lookup | generate SEED COUNT [DIR] \
+const USAGE: &str = "usage: second judge | mask | clean | lookup | generate SEED COUNT [DIR] \
                      | lookups SEED COUNT | listings | types";
 
 type Outcome = Result<ExitCode, Box<dyn std::error::Error>>;
@@ -31,7 +31,8 @@ fn main() -> ExitCode {
 fn run(arguments: &[&str], out: &mut impl Write) -> Outcome {
     match *arguments {
         ["judge"] => judge(out),
-        ["mask"] => mask(out),
+        ["mask"] => copied(DOCUMENT.mask_program(&input()?), out),
+        ["clean"] => copied(DOCUMENT.clean_program(&input()?), out),
         ["lookup"] => lookup(out),
         ["generate", seed, count] => generate(seed.parse()?, count.parse()?, None, out),
         ["generate", seed, count, dir] => generate(seed.parse()?, count.parse()?, Some(dir), out),
@@ -53,9 +54,9 @@ fn judge(out: &mut impl Write) -> Outcome {
     Ok(ExitCode::SUCCESS)
 }
 
-/// The masked copy goes out raw, a refusal to standard error.
-fn mask(out: &mut impl Write) -> Outcome {
-    match DOCUMENT.mask_program(&input()?) {
+/// A copy goes out raw, a refusal to standard error.
+fn copied(copy: Result<Vec<u8>, String>, out: &mut impl Write) -> Outcome {
+    match copy {
         Ok(copy) => {
             out.write_all(&copy)?;
             Ok(ExitCode::SUCCESS)

@@ -2,10 +2,10 @@
 
 use std::ops::Range;
 
-use crate::checks::Lent;
-use crate::rules::{Cover, Rules};
+use crate::checks::fault;
+use crate::rules::{Check, Cover, Rules};
 use crate::verdict::Verdict;
-use crate::walk::Row;
+use crate::walk::{Row, Walk};
 
 impl Rules {
     /// Writes a copy of the message with every covered octet zero. Nothing is
@@ -40,10 +40,7 @@ impl Rules {
     }
 
     fn masked_rows(&self, kind: u32, message: &[u8], room: usize) -> Result<Vec<Row>, Verdict> {
-        let lent = Lent {
-            table: usize::MAX,
-            copy: room,
-        };
+        let lent = |_: &Walk| fault(Check::CopyRoom, room < message.len());
         self.checked(&self.checks.mask, kind, message, lent)
     }
 

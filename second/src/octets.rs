@@ -1,7 +1,7 @@
 //! The forms for the C receiver: numbers as octets, two each, high octet first.
 
 use crate::rules::Rules;
-use crate::verdict::Verdict;
+use crate::verdict::{Answer, Verdict};
 
 impl Rules {
     /// The judge with its table and its five numbers as octets; answers the
@@ -32,12 +32,32 @@ impl Rules {
         self.put_five(self.mask(kind, message, copy), five)
     }
 
+    /// The cleaner with its six numbers as octets; answers the code.
+    #[inline]
+    pub fn clean_octets(
+        &self,
+        kind: u32,
+        message: &[u8],
+        clean: &mut [u8],
+        answer: &mut [u8],
+    ) -> u16 {
+        self.put_answer(self.clean(kind, message, clean), answer)
+    }
+
     /// Writes the five numbers where there is room for all of them.
     fn put_five(&self, verdict: Verdict, five: &mut [u8]) -> u16 {
         if five.len() >= self.sizes.five {
             put(&verdict.numbers(), five);
         }
         verdict.code
+    }
+
+    /// Writes the five numbers and the length where there is room for all.
+    fn put_answer(&self, answer: Answer, octets: &mut [u8]) -> u16 {
+        if octets.len() >= self.sizes.answer {
+            put(&answer.numbers(), octets);
+        }
+        answer.verdict.code
     }
 }
 

@@ -1,5 +1,5 @@
 //! The judge program: what it prints for its standard input, and the same
-//! input taken by the masker.
+//! input taken by the masker and by the cleaner.
 
 use std::fmt::Write;
 
@@ -29,6 +29,19 @@ impl Rules {
             Ok(copy)
         } else {
             Err(refuse(verdict))
+        }
+    }
+
+    /// The cleaned copy, or the line of the refusal.
+    pub fn clean_program(&self, input: &[u8]) -> Result<Vec<u8>, String> {
+        let (kind, message) = self.split(input);
+        let mut clean = vec![0; message.len()];
+        let answer = self.clean(kind, message, &mut clean);
+        if answer.verdict.accepted() {
+            clean.truncate(usize::from(answer.length));
+            Ok(clean)
+        } else {
+            Err(refuse(answer.verdict))
         }
     }
 

@@ -17,6 +17,9 @@ pub struct Rules {
     pub bits: Bits,
     pub sizes: Sizes,
     pub checks: Checks,
+    /// Does a cleaned copy have the elements of that standing? The others are
+    /// set aside.
+    pub cleaned: [bool; STANDINGS],
     pub lookups: Lookups,
 }
 
@@ -131,6 +134,8 @@ pub struct Sizes {
     pub row: usize,
     /// Octets that a buffer for the five numbers needs.
     pub five: usize,
+    /// The same for the five numbers and a length.
+    pub answer: usize,
     /// Rows that the judge program's table has room for.
     pub most_rows: usize,
 }
@@ -160,6 +165,7 @@ pub const CODES: usize = 14;
 pub struct Checks {
     pub judge: Order,
     pub mask: Order,
+    pub clean: Order,
     /// The reply cause by code; code 0 is acceptance.
     pub causes: [u16; CODES],
 }

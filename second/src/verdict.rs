@@ -1,4 +1,5 @@
-//! Verdicts: five numbers, all zero for acceptance.
+//! Verdicts: five numbers, all zero for acceptance; and answers, which have a
+//! length after them.
 
 use crate::rules::{Check, Rules};
 
@@ -55,5 +56,34 @@ impl Verdict {
     /// The five numbers in their order.
     pub const fn numbers(self) -> [u16; Self::NUMBERS] {
         [self.code, self.cause, self.place, self.typ, self.inst]
+    }
+}
+
+/// A verdict, and how many octets were written: 0 where it refuses.
+#[derive(Debug, Clone, Copy, PartialEq, Eq)]
+pub struct Answer {
+    pub verdict: Verdict,
+    pub length: u16,
+}
+
+impl Answer {
+    pub const NUMBERS: usize = Verdict::NUMBERS + 1;
+
+    pub fn refused(verdict: Verdict) -> Self {
+        Self { verdict, length: 0 }
+    }
+
+    /// Acceptance with what was written. No message is longer than 16 bits tell.
+    pub fn written(octets: &[u8]) -> Self {
+        Self {
+            verdict: Verdict::ACCEPTED,
+            length: octets.len() as u16,
+        }
+    }
+
+    /// The six numbers in their order.
+    pub const fn numbers(self) -> [u16; Self::NUMBERS] {
+        let [code, cause, place, typ, inst] = self.verdict.numbers();
+        [code, cause, place, typ, inst, self.length]
     }
 }

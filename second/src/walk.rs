@@ -36,8 +36,24 @@ pub struct Level<'r> {
     kept: u32,
 }
 
+/// How an element stands at its level.
+pub struct Stand<'r> {
+    pub standing: Standing,
+    /// Its line, if it is listed.
+    pub listed: Option<&'r Listed>,
+}
+
+impl<'r> Stand<'r> {
+    /// What is listed inside the element, if it is entered: a kept group is.
+    pub fn inside(&self, rules: &Rules) -> Option<&'r [Listed]> {
+        let listed = self.listed?;
+        let entered = self.standing == Standing::Kept && rules.facts(listed.typ).group;
+        entered.then_some(&listed.inside)
+    }
+}
+
 impl<'r> Level<'r> {
-    fn new(place: u16, listing: &'r [Listed]) -> Self {
+    pub fn new(place: u16, listing: &'r [Listed]) -> Self {
         Self {
             place,
             listing,
@@ -55,16 +71,19 @@ impl<'r> Level<'r> {
         Some(missing)
     }
 
-    /// The standing of the next element here, with its line if it is listed.
-    fn stand(
+    /// How the next element here stands.
+    pub fn stand(
         &mut self,
         rules: &Rules,
         kind: u32,
         element: &Element,
         value: &[u8],
-    ) -> (Standing, Option<&'r Listed>) {
+    ) -> Stand<'r> {
         let Some(position) = position(self.listing, kind, element.typ, element.inst) else {
-            return (Standing::Unexpected, None);
+            return Stand {
+                standing: Standing::Unexpected,
+                listed: None,
+            };
         };
         let listed = &self.listing[position];
         let bit = 1 << position;
@@ -78,7 +97,10 @@ impl<'r> Level<'r> {
             self.kept |= bit;
             Standing::Kept
         };
-        (standing, Some(listed))
+        Stand {
+            standing,
+            listed: Some(listed),
+        }
     }
 }
 
@@ -154,24 +176,24 @@ impl<'r, 'm> Walk<'r, 'm> {
     /// Takes one element, and a kept group's inside after it.
     fn take(&mut self, level: usize, parent: u16, element: &Element) -> Result<(), Broken> {
         let value = &self.message[element.place..element.end()];
-        let (standing, listed) = self.levels[level].stand(self.rules, self.kind, element, value);
+        let stand = self.levels[level].stand(self.rules, self.kind, element, value);
         let row = Row {
             parent,
             typ: element.typ,
             inst: element.inst,
             place: element.place as u16,
             length: element.length as u16,
-            standing,
-            mandatory: listed.is_some_and(|listed| listed.mandatory),
+            standing: stand.standing,
+            mandatory: stand.listed.is_some_and(|listed| listed.mandatory),
         };
         self.rows.push(row);
-        match listed {
-            Some(listed) if standing == Standing::Kept && self.rules.facts(element.typ).group => {
-                let inside = Level::new(row.first_octet(), &listed.inside);
+        match stand.inside(self.rules) {
+            Some(listing) => {
+                let inside = Level::new(row.first_octet(), listing);
                 let number = self.rows.len() as u16;
                 self.run(inside, number, element.place, element.end())
             }
-            _ => Ok(()),
+            None => Ok(()),
         }
     }
 }

@@ -1,4 +1,4 @@
-//! The proved library as Rust sees it: the two C exports behind safe functions.
+//! The proved library as Rust sees it: its C exports behind safe functions.
 
 use second::generate::{Buffers, Case};
 
@@ -21,6 +21,15 @@ mod exports {
             copy_len: usize,
             five: *mut u8,
             five_len: usize,
+        ) -> u16;
+        pub fn wok_clean(
+            kind: u32,
+            message: *const u8,
+            message_len: usize,
+            clean: *mut u8,
+            clean_len: usize,
+            answer: *mut u8,
+            answer_len: usize,
         ) -> u16;
     }
 }
@@ -57,32 +66,50 @@ pub fn mask(kind: u32, message: &[u8], copy: &mut [u8], five: &mut [u8]) -> u16 
     }
 }
 
+/// The cleaner on octets: the code is the result. It asks nothing of its caller.
+pub fn clean(kind: u32, message: &[u8], clean: &mut [u8], answer: &mut [u8]) -> u16 {
+    // SAFETY: as above.
+    unsafe {
+        exports::wok_clean(
+            kind,
+            message.as_ptr(),
+            message.len(),
+            clean.as_mut_ptr(),
+            clean.len(),
+            answer.as_mut_ptr(),
+            answer.len(),
+        )
+    }
+}
+
 /// Octets that show whether they were written over.
 fn filled(length: usize, seed: usize) -> Vec<u8> {
     let octet = |at: usize| (at.wrapping_mul(31).wrapping_add(seed.wrapping_mul(97)) % 251) as u8 | 1;
     (0..length).map(octet).collect()
 }
 
-/// One of the two functions, of the library or of the second program: kind, message, table or copy, five numbers.
+/// One of the functions, of the library or of the second program: kind, message, table or copy, numbers answered.
 pub type Call = fn(u32, &[u8], &mut [u8], &mut [u8]) -> u16;
 
 /// What differs between the two programs on one message with these buffers, if anything does.
 pub fn difference(case: &Case, lent: Buffers) -> Option<String> {
-    let judges = both(case, lent.table, lent.five, [judge, second::judge_octets]);
-    let masks = both(case, lent.copy, lent.five, [mask, second::mask_octets]);
-    let codes = |codes: [u16; 2]| format!("kind {} with {lent:?}: {} against {}", case.kind, codes[0], codes[1]);
-    match (judges, masks) {
-        (Some(found), _) => Some(format!("judge: {}", codes(found))),
-        (_, Some(found)) => Some(format!("mask: {}", codes(found))),
-        _ => None,
-    }
+    let Buffers { table, copy, five, clean: cleaned, answer } = lent;
+    let calls: [(&str, [usize; 2], [Call; 2]); 3] = [
+        ("judge", [table, five], [judge, second::judge_octets]),
+        ("mask", [copy, five], [mask, second::mask_octets]),
+        ("clean", [cleaned, answer], [clean, second::clean_octets]),
+    ];
+    calls.into_iter().find_map(|(name, lengths, calls)| {
+        let [ours, theirs] = both(case, lengths, calls)?;
+        Some(format!("{name}: kind {} with {lent:?}: {ours} against {theirs}", case.kind))
+    })
 }
 
 /// The codes of both, if those or any octet that they leave differ.
-fn both(case: &Case, length: usize, five: usize, calls: [Call; 2]) -> Option<[u16; 2]> {
+fn both(case: &Case, [length, numbers]: [usize; 2], calls: [Call; 2]) -> Option<[u16; 2]> {
     let [ours, theirs] = calls.map(|call| {
-        let (mut lent, mut five) = (filled(length, five), filled(five, length));
-        (call(case.kind, &case.message, &mut lent, &mut five), lent, five)
+        let (mut lent, mut answered) = (filled(length, numbers), filled(numbers, length));
+        (call(case.kind, &case.message, &mut lent, &mut answered), lent, answered)
     });
     (ours != theirs).then_some([ours.0, theirs.0])
 }

@@ -1,19 +1,28 @@
 //! The proved library against the second program: every answer and every lent octet, with buffers around each boundary.
 
-use second::generate::{figures, Case, Generator};
+use second::generate::{figures, Buffers, Case, Generator};
 use trials::difference;
 
-/// Both trials of each case, and how often each code was met.
-fn compare(cases: impl IntoIterator<Item = Case>) -> [usize; 14] {
-    let mut codes = [0; 14];
+/// How often each code was met: of the judge with the largest table, of the cleaner with the buffers of the trials.
+#[derive(Debug, Default)]
+struct Codes {
+    judge: [usize; 14],
+    clean: [usize; 14],
+}
+
+/// Both trials of each case.
+fn compare(cases: impl IntoIterator<Item = Case>) -> Codes {
+    let mut codes = Codes::default();
     for (seed, case) in cases.into_iter().enumerate() {
         for lent in case.buffers(seed as u64) {
             if let Some(what) = difference(&case, lent) {
                 panic!("{what}\n{}", second::lines::case_line(&case));
             }
+            let mut copy = vec![0; lent.clean];
+            codes.clean[usize::from(trials::clean(case.kind, &case.message, &mut copy, &mut []))] += 1;
         }
         let mut table = [0; 12_272];
-        codes[usize::from(trials::judge(case.kind, &case.message, &mut table, &mut []))] += 1;
+        codes.judge[usize::from(trials::judge(case.kind, &case.message, &mut table, &mut []))] += 1;
     }
     codes
 }
@@ -22,8 +31,9 @@ fn compare(cases: impl IntoIterator<Item = Case>) -> [usize; 14] {
 #[test]
 fn every_figure() {
     let codes = compare(figures());
-    for code in 0..=12 {
-        assert!(code == 10 || codes[code] >= 10, "{codes:?}");
+    for code in 0..=13 {
+        assert!(code == 10 || code == 13 || codes.judge[code] >= 10, "{codes:?}");
+        assert!(code == 10 || codes.clean[code] >= 10, "{codes:?}");
     }
 }
 
@@ -89,7 +99,16 @@ fn every_octet_of_every_sample_changed() {
                 changed[at] = value;
                 for kind in 1..=3 {
                     let case = Case { kind, message: changed.clone() };
-                    assert_eq!(difference(&case, case.enough()), None, "{name} at {at}: {value}");
+                    let enough = case.enough();
+                    let mut lent = vec![enough];
+                    // buffers one short and one longer for every eighth value
+                    if value % 8 == 7 {
+                        lent.push(Buffers { copy: enough.copy.saturating_sub(1), clean: enough.clean.saturating_sub(1), ..enough });
+                        lent.push(Buffers { copy: enough.copy + 1, clean: enough.clean + 1, ..enough });
+                    }
+                    for buffers in lent {
+                        assert_eq!(difference(&case, buffers), None, "{name} at {at}: {value}");
+                    }
                     count += 1;
                 }
             }

@@ -5,7 +5,7 @@ ghost use Prim.Native.Nat.{_+_, _*_, _<_, _≤_};
 ghost use lib.ListN.{length, drop};
 ghost use lib.Seq.{paste};
 ghost use Rattle.rules.specs.Sizes.{mostRows, used};
-ghost use Rattle.rules.specs.Octets.{octetsOf, fiveLaid};
+ghost use Rattle.rules.specs.Octets.{octetsOf, fiveLaid, answerLaid};
 ghost use Rattle.octets.specs.Stored.{put2, tableStored};
 use rules::Verdict;
 
@@ -29,6 +29,17 @@ pub fn put_five(v: Verdict, five: &mut [u8])
     put(five, 4, v.place);
     put(five, 6, v.typ);
     put(five, 8, v.inst);
+}
+
+// The five numbers, and the length of what is written. A buffer under 12 octets is not written.
+pub fn put_answer(v: Verdict, length: u16, answer: &mut [u8])
+    ensures { λ _. ⌜ now (answer .exit) ≡ answerLaid v length (now (answer .entry)) ⌝ }
+{
+    if answer.len() < 12 {
+        return;
+    }
+    put_five(v, answer);
+    put(answer, 10, length);
 }
 
 // A table's header: rows, kept rows, place of the first row, numbers used.

@@ -28,7 +28,7 @@ module _ (xs : List ℕ) (a n j : ℕ) (fits : a + n ≤ length xs) where
   front : length (take a xs) ≡ a
   front = length-take-le a xs (omega arith)
 
-  zeroed-before : j < a → getD (zeroed xs a n) j 0 ≡ getD xs j 0
+  pub zeroed-before : j < a → getD (zeroed xs a n) j 0 ≡ getD xs j 0
   unfolding zeroed
   zeroed-before l = List·getD-append (take a xs) (replicate n 0 ++ drop (a + n) xs) 0 j (rw front l) ∙ getD-take a xs j 0 l
 
@@ -40,7 +40,7 @@ module _ (xs : List ℕ) (a n j : ℕ) (fits : a + n ≤ length xs) where
   zeroed-zero c l =
       zeroed-from c ∙ List·getD-append (replicate n 0) (drop (a + n) xs) 0 c (rw (length-replicate {A = ℕ} n 0) l) ∙ getD-replicate n c 0 0 l
 
-  zeroed-in : a ≤ j → j < a + n → getD (zeroed xs a n) j 0 ≡ 0
+  pub zeroed-in : a ≤ j → j < a + n → getD (zeroed xs a n) j 0 ≡ 0
   zeroed-in l u =
       let e : a + (j - a) ≡ j = omega arith in rw e at (zeroed-zero (j - a) (omega arith))
 
@@ -54,20 +54,20 @@ module _ (xs : List ℕ) (a n j : ℕ) (fits : a + n ≤ length xs) where
       let f : a + n + (j - (a + n)) ≡ j = omega arith in
       rw (e, f) at (zeroed-after (j - (a + n)))
 
-zeroed-length : (xs : List ℕ) (a n : ℕ) → a + n ≤ length xs → length (zeroed xs a n) ≡ length xs
+pub zeroed-length : (xs : List ℕ) (a n : ℕ) → a + n ≤ length xs → length (zeroed xs a n) ≡ length xs
 unfolding zeroed
 zeroed-length xs a n l = simp (length-append, length-take, length-replicate, length-drop) (omega arith)
 
 -- ---- how many octets of a value are open
 
 -- of a value of n octets: none, the first, or all
-data Opening (t s n : ℕ) : ℕ → Type 0 where
+pub data Opening (t s n : ℕ) : ℕ → Type 0 where
   none : firstCovered t s ≡ true → Opening t s n 0
   one : firstCovered t s ≡ false → coversRest t ≡ true → 0 < n → Opening t s n 1
   all : firstCovered t s ≡ false → coversRest t ≡ false → Opening t s n n
   empty : n ≡ 0 → Opening t s n n
 
-opening : (t s n : ℕ) → Opening t s n (openOctets t s n)
+pub opening : (t s n : ℕ) → Opening t s n (openOctets t s n)
 unfolding openOctets
 opening t s n = go (firstCovered t s) (coversRest t) (ltb 0 n) refl refl refl
   where
@@ -77,7 +77,7 @@ opening t s n = go (firstCovered t s) (coversRest t) (ltb 0 n) refl refl refl
     go false true true ef er el = one ef er (ltb-true 0 n el)
     go false true false ef er el = empty (omega (arith, ltb-false 0 n el))
 
-opening-most : (t s n o : ℕ) → Opening t s n o → o ≤ n
+pub opening-most : (t s n o : ℕ) → Opening t s n o → o ≤ n
 opening-most t s n o (none f) = omega arith
 opening-most t s n o (one f r l) = omega arith
 opening-most t s n o (all f r) = omega arith
@@ -100,7 +100,7 @@ not-aside t s e = go (isAside s) (coversWhole t) e
 
 module _ (i : Item) (j : ℕ) where
   -- from the open octets on a value is covered
-  covered-after : (o : ℕ) → Opening (i .typ) (i .stand) (i .len) o → i .stand ≤ short → valuePlace i + o ≤ j → j < valueEnd i → coveredBy i j ≡ true
+  pub covered-after : (o : ℕ) → Opening (i .typ) (i .stand) (i .len) o → i .stand ≤ short → valuePlace i + o ≤ j → j < valueEnd i → coveredBy i j ≡ true
   unfolding coveredBy
   covered-after o (none f) s l u = rw (le-leb (valuePlace i) j (omega arith), lt-ltb j (valueEnd i) u, f)
   covered-after o (one f r c) s l u =
@@ -116,7 +116,7 @@ module _ (i : Item) (j : ℕ) where
   covered-after o (empty z) s l u = absurd (omega arith)
 
   -- and not before
-  open-before : (o : ℕ) → Opening (i .typ) (i .stand) (i .len) o → j < valuePlace i + o → coveredBy i j ≡ false
+  pub open-before : (o : ℕ) → Opening (i .typ) (i .stand) (i .len) o → j < valuePlace i + o → coveredBy i j ≡ false
   open-before o (none f) l = by-before i j (omega arith)
   open-before o (one f r c) l = go (ℕ-discrete j (valuePlace i))
     where

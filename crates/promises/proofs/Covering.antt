@@ -1,11 +1,11 @@
 -- Covered octets lie in values, never in a header: an element that is not entered covers its own value at most, and a kept group covers nothing for
 -- its own sake, so the headers inside it stay open. Assumes nothing.
 --     before, beyond      in a run nothing is covered before the end of the first header, nor past the run's end
---     sits, rows-sit      each row lies in its run, has one of the four standings, and its header is open
+--     sits, rows-sit      each row lies in its run, has one of the four standings, its header is open, and if it is no group, no other row covers its value
 --     open-refused, covered-rows                  what is covered of a message that checks 1 to 9 refuse, and of one that they pass
 --     header-open, past-open, row-header-open     no octet is covered of the message's header, past its end, or of the header of an element taken
 use mathlib.Core.Path.{_≡_, refl, sym, ap, _∙_}
-use mathlib.Core.Bool.{Bool, true, false, _||_, and-false, or-assoc}
+use mathlib.Core.Bool.{Bool, true, false, _||_, and-false, or-assoc, or-false}
 use mathlib.Core.List.{List, [], _∷_, _++_}
 use Prim.Native.Nat.{ℕ, _+_, _≤_, _<_}
 use native.Mathlib.Omega.{arith}
@@ -13,7 +13,7 @@ use borrow.Author.Tests.{lt-leb, le-ltb, eq-eqb}
 use lib.Dec.{leb}
 use lib.ListN.{length, take, drop, length-drop}
 use Rattle.rules.specs.Framing.{elementHeader, headerLength}
-use Rattle.rules.specs.Types.{coversRest}
+use Rattle.rules.specs.Types.{coversRest, isGroup}
 use Rattle.rules.specs.Listings.{Book}
 use Rattle.rules.specs.Standing.{Item, fresh, short, itemOf, valuePlace, valueEnd}
 use Rattle.rules.specs.Taking.{whole, taken, bodyLevel, itemsIn}
@@ -27,7 +27,7 @@ use Rattle.rules.specs.Table.{nth}
 use Rattle.rules.proofs.Rows.{Every, every-append, every-map, every-at, body-met}
 use Rattle.rules.proofs.Header.{Passed, framed}
 use Rattle.rules.specs.Values.{rowPlace}
-use Rattle.rules.proofs.Covers.{firstCovered, group-open}
+use Rattle.rules.proofs.Covers.{firstCovered, group-open, group-type}
 use Rattle.tables.specs.Words.{rows, rowStart}
 use Rattle.tables.specs.IsTable.{IsTable}
 use Rattle.tables.proofs.Rowed.{count-of, row-of}
@@ -63,6 +63,16 @@ pub in-cons : (i : Item) (is : List Item) (j : ℕ) → coveredBy i j ≡ false 
 unfolding coveredIn
 in-cons i is j a c = rw (a, c)
 
+pub in-skip : (i : Item) (is : List Item) (j : ℕ) → coveredBy i j ≡ false → coveredIn (i ∷ is) j ≡ coveredIn is j
+unfolding coveredIn
+in-skip i is j a = rw a
+
+pub in-front : (is js : List Item) (j : ℕ) → coveredIn js j ≡ false → coveredIn (is ++ js) j ≡ coveredIn is j
+in-front is js j c = rw (in-append is js j, c, or-false (coveredIn is j))
+
+pub in-back : (is js : List Item) (j : ℕ) → coveredIn is j ≡ false → coveredIn (is ++ js) j ≡ coveredIn js j
+in-back is js j a = rw (in-append is js j, a)
+
 pub in-both : (is js : List Item) (j : ℕ) → coveredIn is j ≡ false → coveredIn js j ≡ false → coveredIn (is ++ js) j ≡ false
 in-both is js j a c = rw (in-append is js j, a, c)
 
@@ -96,23 +106,37 @@ beyond {b} {k} (group {v = v} {m = m} {p = p} {at = at} {xs = xs} {is = is} {es 
 abbrev pub HeaderOpen : List Item → Item → Type 0
 HeaderOpen is i = (j : ℕ) → i .place ≤ j → j < valuePlace i → coveredIn is j ≡ false
 
+-- the value of a row that is no group is covered for its own sake alone
+abbrev pub OwnCover : List Item → Item → Type 0
+OwnCover is i = isGroup (i .typ) ≡ false → (j : ℕ) → valuePlace i ≤ j → j < valueEnd i → coveredIn is j ≡ coveredBy i j
+
 -- a row among the rows `is`, all from lo on and below hi
 pub record Sits (is : List Item) (lo hi : ℕ) (i : Item) : Type 0 where
   pub begins : lo ≤ i .place
   pub finishes : valueEnd i ≤ hi
   pub stands : i .stand ≤ short
   pub opens : HeaderOpen is i
+  pub owns : OwnCover is i
 
+-- more rows, which cover nothing else there
 sits-more : (is js : List Item) (lo hi lo′ hi′ : ℕ) (es : List Item) → lo′ ≤ lo → hi ≤ hi′
-    → ((j : ℕ) → lo ≤ j → j < hi → coveredIn is j ≡ false → coveredIn js j ≡ false) → Every (Sits is lo hi) es → Every (Sits js lo′ hi′) es
+    → ((j : ℕ) → lo ≤ j → j < hi → coveredIn js j ≡ coveredIn is j) → Every (Sits is lo hi) es → Every (Sits js lo′ hi′) es
 sits-more is js lo hi lo′ hi′ es a c f s =
     every-map (Sits is lo hi) (Sits js lo′ hi′) es
     (λ i x. record {
       begins = omega (arith, x .begins);
       finishes = omega (arith, x .finishes);
       stands = x .stands;
-      opens = λ j l u. f j (omega (arith, x .begins)) (omega (arith, x .finishes)) (x .opens j l u);
+      opens = λ j l u. f j (omega (arith, x .begins)) (omega (arith, x .finishes)) ∙ x .opens j l u;
+      owns = λ g j l u. f j (omega (arith, x .begins)) (omega (arith, x .finishes)) ∙ x .owns g j l u;
     }) s
+
+own : (i : Item) (is : List Item) (j : ℕ) → coveredIn is j ≡ false → coveredIn (i ∷ is) j ≡ coveredBy i j
+unfolding coveredIn
+own i is j a = rw (a, or-false (coveredBy i j))
+
+two-ways : (t : ℕ) → isGroup t ≡ false → isGroup t ≡ true → ⊥
+two-ways t e f = let z : _≡_ {A = ℕ} 0 1 = cc in omega arith
 
 pub sits : {b : Book} {k v : ℕ} {m : List ℕ} {p n at : ℕ} {xs : List ℕ} {es : List Item} → sound b ≡ true → Met b k v m p n at xs es
     → Every (Sits es at (at + length xs)) es
@@ -128,9 +152,10 @@ sits {b} {k} fine (alone {v = v} {m = m} {p = p} {at = at} {xs = xs} {es = es} h
         finishes = omega (arith, f);
         stands = stand-most b k v m h;
         opens = λ j l u. in-cons i es j (by-before i j u) (before t j (omega arith));
+        owns = λ z j l u. own i es j (before t j (omega arith));
       },
       sits-more es (i ∷ es) end (end + length (drop (elementHeader + h .len) xs)) at (at + length xs) es (omega arith) (omega (arith, r))
-          (λ j l u c. in-cons i es j (by-past i j l) c) (sits fine t),
+          (λ j l u. in-skip i es j (by-past i j l)) (sits fine t),
     )
 sits {b} {k} fine (group {v = v} {m = m} {p = p} {at = at} {xs = xs} {is = is} {es = es} h g a e d t) =
     let i = itemOf b k v m p at h in
@@ -145,12 +170,13 @@ sits {b} {k} fine (group {v = v} {m = m} {p = p} {at = at} {xs = xs} {is = is} {
         finishes = omega (arith, f);
         stands = stand-most b k v m h;
         opens = λ j l u. in-cons i (is ++ es) j (by-before i j u) (in-both is es j (before d j (omega arith)) (before t j (omega arith)));
+        owns = λ z j l u. absurd (two-ways (h .typ) z (group-type b fine k v m h g e));
       },
       every-append (Sits (i ∷ (is ++ es)) at (at + length xs)) is es
           (sits-more is (i ∷ (is ++ es)) start (start + length (take (h .len) (drop elementHeader xs))) at (at + length xs) is (omega arith) (omega (arith, q, f))
-          (λ j l u c. in-cons i (is ++ es) j (by-open i j (o .0) (o .1)) (in-both is es j c (before t j (omega (arith, q))))) (sits fine d))
+          (λ j l u. in-skip i (is ++ es) j (by-open i j (o .0) (o .1)) ∙ in-front is es j (before t j (omega (arith, q)))) (sits fine d))
           (sits-more es (i ∷ (is ++ es)) end (end + length (drop (elementHeader + h .len) xs)) at (at + length xs) es (omega arith) (omega (arith, r))
-          (λ j l u c. in-cons i (is ++ es) j (by-past i j l) (in-both is es j (beyond d j (omega (arith, q))) c)) (sits fine t)),
+          (λ j l u. in-skip i (is ++ es) j (by-past i j l) ∙ in-back is es j (beyond d j (omega (arith, q)))) (sits fine t)),
     )
 
 -- ---- a message

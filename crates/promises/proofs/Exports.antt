@@ -1,22 +1,24 @@
 -- The exports to C, over the numbers that the receiver reads in the octets: the octets of a number are read as that number, so what holds of the judge's
 -- table and of its five numbers holds of what is read. Assumes nothing.
 --     export-leaves   on code 0 a table that is accepted is read in the table's octets       five-read, five-short   the five numbers
+--     answer-read, answer-short   the five and a length
 use mathlib.Core.Path.{_≡_, refl, sym, ap, _∙_}
 use mathlib.Core.Logic.{_⊎_, inl, inr}
-use mathlib.Core.Bool.{true, false}
+use mathlib.Core.Bool.{Bool, true, false, cond}
 use mathlib.Core.List.{List, [], _∷_, _++_}
 use Prim.Native.Nat.{ℕ, _+_, _*_, _/_, _%_, _≤_, _<_}
 use native.Mathlib.Omega.{arith}
 use borrow.Author.Tests.{lt-ltb, le-ltb}
+use lib.Dec.{ltb}
 use lib.ListN.{length, take, drop, getD}
-use Rattle.rules.specs.Sizes.{fiveOctets, used}
+use Rattle.rules.specs.Sizes.{fiveOctets, answerOctets, used}
 use Rattle.rules.specs.Types.{among}
 use Rattle.rules.specs.Listings.{book}
 use Rattle.rules.specs.Standing.{Item}
 use Rattle.rules.specs.Taking.{whole, taken, itemsIn}
 use Rattle.rules.specs.Table.{tableOf, laid}
 use Rattle.rules.specs.Verdicts.{accepted, refuses, items, judgeVerdict, judgeNumbers}
-use Rattle.rules.specs.Octets.{octetsOf, five, fiveLaid, tableRoom, judgeOctets}
+use Rattle.rules.specs.Octets.{octetsOf, five, fiveLaid, six, answerLaid, tableRoom, judgeOctets}
 use Rattle.rules.specs.Answers.{JudgedOctets}
 use Rattle.rules.specs.declared.Verdict.{Verdict}
 use Rattle.rules.proofs.Book.{book-sound}
@@ -127,3 +129,24 @@ module _ (f f′ : List ℕ) (v : Verdict) (e : f′ ≡ fiveLaid v f) where
   pub five-short : length f < fiveOctets → f′ ≡ f
   unfolding fiveLaid
   five-short l = e ∙ rw (lt-ltb (length f) fiveOctets l)
+
+-- ---- the five and a length
+
+module _ (f f′ : List ℕ) (v : Verdict) (n : ℕ) (e : f′ ≡ answerLaid v n f) where
+  pub answer-read : answerOctets ≤ length f → take 6 (numbersIn f′) ≡ six v n
+  unfolding answerLaid laid
+  answer-read l =
+      let z : f′ ≡ octetsOf (six v n) ++ drop (length (octetsOf (six v n))) f = e ∙ rw (le-ltb (length f) answerOctets l) in
+      ap (λ (xs : List ℕ). take 6 (numbersIn xs)) z ∙ ap (take 6) (read-numbers (six v n) (drop (length (octetsOf (six v n))) f))
+
+  pub answer-stays : (i : ℕ) → answerOctets ≤ i → getD f′ i 0 ≡ getD f i 0
+  unfolding answerLaid octetsOf
+  answer-stays i l = rw e (go (ltb (length f) answerOctets))
+    where
+      go : (c : Bool) → getD (cond c f (laid (octetsOf (six v n)) f)) i 0 ≡ getD f i 0
+      go true = refl
+      go false = laid-past (octetsOf (six v n)) f i l
+
+  pub answer-short : length f < answerOctets → f′ ≡ f
+  unfolding answerLaid
+  answer-short l = e ∙ rw (lt-ltb (length f) answerOctets l)

@@ -1,13 +1,17 @@
 pub mod Left
 pub mod Covering
 pub mod Clearing
+pub mod Veils
 pub mod Agreeing
 pub mod Copies
+pub mod Commuting
+pub mod Cleaned
 pub mod Exports
 pub mod Contracts
 pub mod Lookups
 pub mod Unique
 pub mod Examples
 pub mod StandIns
+pub mod CleanStandIns
 pub mod Main
 pub mod ExampleTables

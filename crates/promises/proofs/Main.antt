@@ -1,29 +1,32 @@
--- Every statement to the owner, demand by demand, of the judge, the masker, the lookups and the exports by the listings of rule 3.2. Each is proved in the file
--- that it cites, there of any listings that pass the test `sound`; these do (`book-sound`). Assumes nothing.
+-- Every statement to the owner, demand by demand, of the judge, the masker, the cleaner, the lookups and the exports by the listings of rule 3.2. Each is proved in the file
+-- that it cites, there, or in the laws below it, of any listings that pass the test `sound`; these do (`book-sound`). Assumes nothing.
 use mathlib.Core.Path.{_≡_, sym, ap, _∙_}
-use mathlib.Core.Logic.{_⊎_, _↔_}
+use mathlib.Core.Logic.{_⊎_, _↔_, _≢_}
 use mathlib.Core.Bool.{Bool, true, false, cond}
 use mathlib.Core.List.{List}
 use Prim.Native.Nat.{ℕ, suc, _+_, _-_, _*_, _≤_, _<_}
 use native.Mathlib.Omega.{arith}
 use lib.ListN.{length, take, drop, getD}
 use denote.Ref.{RefT, now}
-use Rattle.rules.specs.Sizes.{largestMessage, mostRows, headerNumbers, fiveOctets, used}
-use Rattle.rules.specs.Framing.{elementHeader, headerLength}
+use Rattle.rules.specs.Sizes.{largestMessage, mostRows, headerNumbers, fiveOctets, answerOctets, used}
+use Rattle.rules.specs.Framing.{octet, elementHeader, headerLength}
 use Rattle.rules.specs.Types.{among}
 use Rattle.rules.specs.Listings.{book, noLine, lists}
 use Rattle.rules.specs.Standing.{Item, kept, unexpected, repeated, short}
 use Rattle.rules.specs.Taking.{whole, taken, bodyLevel}
 use Rattle.rules.specs.Table.{tableOf, laid}
-use Rattle.rules.specs.Verdicts.{accepted, refusedAt, invalidLength, mandatoryMissing, refuses, first, framingChecks, items, judgeVerdict, maskVerdict, judgeTable, judgeNumbers, maskNumbers}
+use Rattle.rules.specs.Verdicts.{accepted, refused, refusedAt, invalidLength, mandatoryMissing, refuses, first, framingChecks, items, judgeVerdict, maskVerdict, judgeTable, judgeNumbers, maskNumbers}
 use Rattle.rules.specs.Covered.{covered, masked, maskCopy}
+use Rattle.rules.specs.Cleaned.{cleaned, cleanChecks, cleanVerdict, cleanLength, cleanNumbers}
 use Rattle.rules.specs.Values.{rowType, rowInstance, rowParent, rowPlace, rowStanding, Stands}
-use Rattle.rules.specs.Octets.{five, tableRoom}
-use Rattle.rules.specs.Answers.{Judged, Masked, Plain, PlainFound, Desk, DeskFound, JudgedOctets, MaskedOctets}
+use Rattle.rules.specs.Octets.{five, six, tableRoom}
+use Rattle.rules.specs.Answers.{Judged, Masked, Cleans, Plain, PlainFound, Desk, DeskFound, JudgedOctets, MaskedOctets, CleanedOctets}
 use Rattle.rules.specs.declared.Verdict.{Verdict}
+use Rattle.rules.specs.declared.Sent.{Sent}
 use Rattle.rules.proofs.Book.{book-sound}
-use Rattle.rules.proofs.Header.{Passed}
-use Rattle.rules.proofs.Rows.{header-least}
+use Rattle.rules.proofs.Checks.{OwnCase}
+use Rattle.rules.proofs.Header.{Passed, clean-case}
+use Rattle.rules.proofs.Rows.{Octets, header-least}
 use Rattle.tables.specs.Words.{rows, keptCount, firstRow, numbersUsed, keptAmong, rowStart, rowEnd, KeptGroup, IsLevel, Inside, Faithful}
 use Rattle.tables.specs.Levels.{levelOf}
 use Rattle.tables.specs.Standings.{itsListing, Listed, Again, Below}
@@ -37,7 +40,7 @@ use Rattle.verdicts.specs.Conditions.{framingConditions, judgeConditions, maskC
 use Rattle.tables.proofs.Rowed.{Begins}
 use Rattle.verdicts.proofs.Laying.{accepted-table}
 use Rattle.verdicts.proofs.Cases.{judge-words, mask-words, judge-says, mask-says}
-use Rattle.verdicts.proofs.Acceptance.{NoneHolds, OneOf, judge-accepting, mask-accepting, judge-codes, mask-codes}
+use Rattle.verdicts.proofs.Acceptance.{NoneHolds, OneOf, judge-accepting, mask-accepting, judge-codes, mask-codes, clean-codes}
 use Rattle.tables.proofs.Standings.{listed-iff, unexpected-iff, repeated-iff, short-iff, kept-iff, kept-listed}
 use Rattle.tables.proofs.Trees.{backward, between, in-message}
 use Rattle.tables.proofs.Tiling.{tiles}
@@ -52,13 +55,15 @@ use Rattle.verdicts.proofs.CutPlace.{table-or-cut, never-both, cut-once, nine-a
 use Rattle.verdicts.proofs.Refusing.{ten-iff, eleven-iff, eleven-at, twelve-iff, twelve-at}
 use Rattle.promises.specs.Agreeing.{SameOpen, AtDesk}
 use Rattle.promises.specs.Exports.{numbersIn, LeavesOctets}
+use Rattle.promises.specs.Cleaning.{CleanRows}
 use Rattle.promises.specs.Lookups.{valueOf, TopRow, FirstTopRow}
 use Rattle.promises.proofs.Left.{refused-table, refused-copy, table-stays}
 use Rattle.promises.proofs.Covering.{header-open, element-header-open}
 use Rattle.promises.proofs.Agreeing.{same-verdict, same-table, same-mask-verdict, same-copy}
 use Rattle.promises.proofs.Copies.{copy-octet, copy-past, copy-verdict, copy-table, masked-twice, desk-part}
-use Rattle.promises.proofs.Exports.{code-of, export-leaves, leaves-export, export-refused, five-read, five-short}
+use Rattle.promises.proofs.Exports.{code-of, export-leaves, leaves-export, export-refused, five-read, five-short, answer-read, answer-stays, answer-short}
 use Rattle.promises.proofs.Contracts.{two-judged, two-masked, two-judged-octets, two-masked-octets, copied, copied-octets}
+use Rattle.promises.proofs.Cleaned.{left-alone, refused-as-judged, accepted-exactly, thirteen-by-room, made, is-copy, past-stays, header-kept, no-longer, clean-judged-as, clean-once, whole-same, commutes}
 use Rattle.promises.proofs.Lookups.{desk-span, desk-found, plain-span, plain-found}
 
 module _ (k : ℕ) (m : List ℕ) where
@@ -356,6 +361,70 @@ module _ {k : ℕ} {m lent : List ℕ} {v : Verdict} {left : List ℕ} (c : Mask
   pub masked-judged : v ≡ accepted → {t : List ℕ} {a d : Verdict} {l u : List ℕ} → Judged k m t a l → Judged k (take (length m) left) t d u → (d ≡ a) × (u ≡ l)
   masked-judged e = two-judged k m (take (length m) left) (copied c e)
 
+-- ---- the cleaner
+
+module _ {k : ℕ} {m lent : List ℕ} {s : Sent} {left : List ℕ} (c : Cleans k m lent s left) where
+  -- each of its numbers is given exactly where that check of rule 11.3 applies and none before it does
+  pub cleaned-in-its-case : (j : ℕ) → j < length cleanNumbers → (s .verdict .code ≡ getD cleanNumbers j 0) ↔ OwnCase (cleanChecks book k m (length lent)) j
+  cleaned-in-its-case j l = rw (c .verdict-is) (clean-case book k m (length lent) j l)
+
+  pub cleaned-one-of : OneOf cleanNumbers (s .verdict)
+  cleaned-one-of = rw (c .verdict-is) (clean-codes book book-sound k m (length lent))
+
+  -- a refusal writes nothing, and its length is 0
+  pub cleaned-refused : refuses (s .verdict) ≡ true → (left ≡ lent) × (s .length ≡ 0)
+  cleaned-refused = left-alone c
+
+  -- it refuses as the judge does with room for any table, all five numbers alike; then 13 exactly where the buffer is shorter than the cleaned copy
+  module _ {table : List ℕ} {v : Verdict} {rest : List ℕ} (j : Judged k m table v rest) (room : used mostRows ≤ length table) where
+    pub cleaned-as-judged : refuses v ≡ true → s .verdict ≡ v
+    cleaned-as-judged = refused-as-judged c j room
+
+    pub cleaned-exactly : (s .verdict ≡ accepted) ↔ ((v ≡ accepted) × (length (cleaned book k m) ≤ length lent))
+    cleaned-exactly = accepted-exactly c j room
+
+    pub cleaned-thirteen : (s .verdict ≡ refused 13 0) ↔ ((v ≡ accepted) × (length lent < length (cleaned book k m)))
+    cleaned-thirteen = thirteen-by-room c j room
+
+  module _ (a : s .verdict ≡ accepted) where
+    -- the copy stands at the start of the buffer, with the length that is answered; what is past it stays
+    pub cleaned-holds : take (s .length) left ≡ cleaned book k m
+    cleaned-holds = is-copy c a
+
+    pub cleaned-answers : s .length ≡ length (cleaned book k m)
+    cleaned-answers = made c a
+
+    pub cleaned-stays : drop (s .length) left ≡ drop (s .length) lent
+    cleaned-stays = past-stays c a
+
+    pub cleaned-shorter : s .length ≤ length m
+    cleaned-shorter = no-longer c a
+
+    -- the copy is accepted on the same kind where the message is, with a table no shorter, every row kept: the message's kept rows in their order, with
+    -- their types, instances and values, parents numbered anew
+    pub cleaned-rows : {lent₁ lent₂ : List ℕ} {v w : Verdict} {t u : List ℕ} → Judged k m lent₁ v t → v ≡ accepted → Judged k (take (s .length) left) lent₂ w u
+        → length lent₁ ≤ length lent₂ → (w ≡ accepted) × CleanRows m t (take (s .length) left) u
+    cleaned-rows = clean-judged-as c a
+
+    -- cleaned again it is itself; and so is a message with every row kept
+    pub cleaned-twice : {lent₂ : List ℕ} {s₂ : Sent} {left₂ : List ℕ} → Cleans k (take (s .length) left) lent₂ s₂ left₂ → s .length ≤ length lent₂
+        → (s₂ .verdict ≡ accepted) × (s₂ .length ≡ s .length) × (take (s₂ .length) left₂ ≡ take (s .length) left)
+    cleaned-twice = clean-once c a
+
+    pub cleaned-same : Octets m → {lent₁ : List ℕ} {v : Verdict} {t : List ℕ} → Judged k m lent₁ v t → v ≡ accepted → keptCount t ≡ rows t → take (s .length) left ≡ m
+    cleaned-same = whole-same c a
+
+    -- the header is as it came, but for its length
+    pub cleaned-header : (j : ℕ) → j < headerLength m → j ≢ 2 → j ≢ 3 → octet left j ≡ octet m j
+    cleaned-header = header-kept c a
+
+    -- cleaned and masked, either first, with room for the copy: both are made, and are the same
+    pub clean-and-mask : Octets m → {lent₂ : List ℕ} {v₂ : Verdict} {left₂ : List ℕ} → Masked k m lent₂ v₂ left₂ → v₂ ≡ accepted
+        → {lent₃ : List ℕ} {s₃ : Sent} {left₃ : List ℕ} → Cleans k (take (length m) left₂) lent₃ s₃ left₃ → s .length ≤ length lent₃
+        → {lent₄ : List ℕ} {v₄ : Verdict} {left₄ : List ℕ} → Masked k (take (s .length) left) lent₄ v₄ left₄ → s .length ≤ length lent₄
+        → (s₃ .verdict ≡ accepted) × (v₄ ≡ accepted) × (s₃ .length ≡ s .length) × (take (s₃ .length) left₃ ≡ take (s .length) left₄)
+    clean-and-mask = commutes c a
+
 -- ---- the exports: what the C receiver reads, two octets a number
 
 module _ {k : ℕ} {m lent lentFive : List ℕ} {code : ℕ} {left leftFive : List ℕ} (c : JudgedOctets k m lent lentFive code left leftFive) where
@@ -397,6 +466,26 @@ module _ {k : ℕ} {m lent lentFive : List ℕ} {code : ℕ} {left leftFive : Li
   pub mask-octets-judged : code ≡ 0 → {t f : List ℕ} {a d : ℕ} {l u g h : List ℕ} → JudgedOctets k m t f a l g → JudgedOctets k (take (length m) left) t f d u h
       → (d ≡ a) × (u ≡ l) × (h ≡ g)
   mask-octets-judged e = two-judged-octets k m (take (length m) left) (copied-octets c e)
+
+module _ {k : ℕ} {m lent lentAnswer : List ℕ} {code : ℕ} {left leftAnswer : List ℕ} (c : CleanedOctets k m lent lentAnswer code left leftAnswer) where
+  -- the cleaner's export leaves the copy that the cleaner leaves
+  pub clean-octets-cleaned : (s : Sent) (copy : List ℕ) → Cleans k m lent s copy → (code ≡ s .verdict .code) × (left ≡ copy)
+  clean-octets-cleaned s copy x = (c .answers ∙ sym (ap (λ (w : Verdict). w .code) (x .verdict-is)), c .clean-left ∙ sym (x .out-left))
+
+  -- and its six numbers, if there is room for them; else nothing is written
+  pub clean-octets-six : (s : Sent) (copy : List ℕ) → Cleans k m lent s copy → answerOctets ≤ length lentAnswer → take 6 (numbersIn leftAnswer) ≡ six (s .verdict) (s .length)
+  clean-octets-six s copy x l =
+      rw (x .verdict-is, x .length-is) (answer-read lentAnswer leftAnswer (cleanVerdict book k m (length lent)) (cleanLength book k m (length lent)) (c .answer-left) l)
+
+  pub clean-octets-one-of : (code ≡ 0) ⊎ (among code cleanNumbers ≡ true)
+  clean-octets-one-of = rw (c .answers) (code-of cleanNumbers (cleanVerdict book k m (length lent)) (clean-codes book book-sound k m (length lent)))
+
+  -- octets past the twelve stay
+  pub clean-octets-stay : (i : ℕ) → answerOctets ≤ i → getD leftAnswer i 0 ≡ getD lentAnswer i 0
+  clean-octets-stay = answer-stays lentAnswer leftAnswer (cleanVerdict book k m (length lent)) (cleanLength book k m (length lent)) (c .answer-left)
+
+  pub clean-octets-short : length lentAnswer < answerOctets → leftAnswer ≡ lentAnswer
+  clean-octets-short = answer-short lentAnswer leftAnswer (cleanVerdict book k m (length lent)) (cleanLength book k m (length lent)) (c .answer-left)
 
 -- ---- two messages of one length that differ in covered octets alone, and equal buffers
 

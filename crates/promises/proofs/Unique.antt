@@ -5,11 +5,12 @@ use mathlib.Core.List.{List}
 use Prim.Native.Nat.{ℕ}
 use denote.Ref.{RefT, now, ptr}
 use Rattle.rules.specs.Values.{Stands}
-use Rattle.rules.specs.Answers.{Read, Decided, Judged, Masked, Plain, PlainFound, Desk, DeskFound, JudgedOctets, MaskedOctets}
+use Rattle.rules.specs.Answers.{Read, Decided, Judged, Masked, Cleans, Plain, PlainFound, Desk, DeskFound, JudgedOctets, MaskedOctets, CleanedOctets}
 use Rattle.rules.specs.Program.{Written}
 use Rattle.rules.specs.declared.Verdict.{Verdict}
 use Rattle.rules.specs.declared.Reading.{Reading}
 use Rattle.rules.specs.declared.Decision.{Decision}
+use Rattle.rules.specs.declared.Sent.{Sent}
 use Rattle.rules.specs.declared.Span.{Span}
 
 -- the one law: a contract that is an equation allows one answer
@@ -27,6 +28,9 @@ judged-unique k m t r r′ l l′ x y = (both (x .answers) (y .answers), both (x
 
 pub masked-unique : (k : ℕ) (m c : List ℕ) (r r′ : Verdict) (l l′ : List ℕ) → Masked k m c r l → Masked k m c r′ l′ → (r ≡ r′) × (l ≡ l′)
 masked-unique k m c r r′ l l′ x y = (both (x .answers) (y .answers), both (x .copy-left) (y .copy-left))
+
+pub cleaned-unique : (k : ℕ) (m c : List ℕ) (r r′ : Sent) (l l′ : List ℕ) → Cleans k m c r l → Cleans k m c r′ l′ → (r .verdict ≡ r′ .verdict) × (r .length ≡ r′ .length) × (l ≡ l′)
+cleaned-unique k m c r r′ l l′ x y = (both (x .verdict-is) (y .verdict-is), both (x .length-is) (y .length-is), both (x .out-left) (y .out-left))
 
 -- equal octets, and equal places: the block and the offset in it
 pub record SamePart (r r′ : RefT (List ℕ)) : Type 0 where
@@ -56,6 +60,10 @@ judged-octets-unique k m t five r r′ l l′ f f′ x y = (both (x .answers) (y
 pub masked-octets-unique : (k : ℕ) (m c five : List ℕ) (r r′ : ℕ) (l l′ f f′ : List ℕ) → MaskedOctets k m c five r l f → MaskedOctets k m c five r′ l′ f′
     → (r ≡ r′) × (l ≡ l′) × (f ≡ f′)
 masked-octets-unique k m c five r r′ l l′ f f′ x y = (both (x .answers) (y .answers), both (x .copy-left) (y .copy-left), both (x .five-left) (y .five-left))
+
+pub cleaned-octets-unique : (k : ℕ) (m c answer : List ℕ) (r r′ : ℕ) (l l′ f f′ : List ℕ) → CleanedOctets k m c answer r l f → CleanedOctets k m c answer r′ l′ f′
+    → (r ≡ r′) × (l ≡ l′) × (f ≡ f′)
+cleaned-octets-unique k m c answer r r′ l l′ f f′ x y = (both (x .answers) (y .answers), both (x .clean-left) (y .clean-left), both (x .answer-left) (y .answer-left))
 
 pub written-unique : (input out : List ℕ) (r r′ : ℕ) (o o′ : List ℕ) → Written input out r o → Written input out r′ o′ → (r ≡ r′) × (o ≡ o′)
 written-unique input out r r′ o o′ x y = (both (x .answers) (y .answers), both (x .out-left) (y .out-left))

@@ -1,14 +1,21 @@
--- Functions that stand in for a judge, a masker or a lookup: what it means that one meets its contract. They are asked no more than the code is: of a kind
+-- Functions that stand in for a judge, a masker, a cleaner or a lookup: what it means that one meets its contract. They are asked no more than the code is: of a kind
 -- of 32 bits, octets, and numbers of 16 bits. Assumes nothing.
 use mathlib.Core.Path.{_≡_}
-use mathlib.Core.Bool.{Bool, true, _&&_}
-use mathlib.Core.List.{List, [], _∷_}
-use Prim.Native.Nat.{ℕ}
-use lib.Dec.{ltb}
+use mathlib.Core.Bool.{Bool, true, cond, _&&_}
+use mathlib.Core.List.{List, [], _∷_, map}
+use Prim.Native.Nat.{ℕ, _-_}
+use lib.Dec.{eqb, ltb}
+use lib.ListN.{take, drop}
 use denote.Ref.{RefT, now}
 use Rattle.rules.specs.Listings.{Book, Line, book}
-use Rattle.rules.specs.Answers.{Judged, Masked, Plain, Desk}
+use Rattle.rules.specs.Framing.{octet, headerLength}
+use Rattle.rules.specs.Standing.{Item, kept}
+use Rattle.rules.specs.Verdicts.{items}
+use Rattle.rules.specs.Emitting.{emitted, written}
+use Rattle.rules.specs.Cleaned.{pieces}
+use Rattle.rules.specs.Answers.{Judged, Masked, Cleans, Plain, Desk}
 use Rattle.rules.specs.declared.Verdict.{Verdict}
+use Rattle.rules.specs.declared.Sent.{Sent}
 
 -- every number is below a bound
 unfoldable pub below : ℕ → List ℕ → Bool
@@ -46,6 +53,34 @@ IsJudge f = (k : ℕ) (m t : List ℕ) → Given numberBound k m t → Judged k 
 
 abbrev pub IsMasker : Function → Type 0
 IsMasker f = (k : ℕ) (m c : List ℕ) → Given octetBound k m c → Masked k m c (f k m c .verdict) (f k m c .left)
+
+-- from kind, message and a buffer, what is answered and what is left
+pub record Writing : Type 0 where
+  pub sent : Sent
+  pub left : List ℕ
+
+abbrev pub Writer : Type 0
+Writer = ℕ → List ℕ → List ℕ → Writing
+
+abbrev pub IsCleaner : Writer → Type 0
+IsCleaner f = (k : ℕ) (m c : List ℕ) → Given octetBound k m c → Cleans k m c (f k m c .sent) (f k m c .left)
+
+-- the message without the rows set aside at its own level alone: those inside groups are taken for kept
+abbrev pub takenOuter : Item → Item
+takenOuter i = record {
+  parent = i .parent;
+  place = i .place;
+  typ = i .typ;
+  inst = i .inst;
+  len = i .len;
+  stand = cond (eqb (i .parent) 0) (i .stand) kept;
+  must = i .must;
+  inside = i .inside;
+}
+
+abbrev pub outerCleaned : ℕ → List ℕ → List ℕ
+outerCleaned k m =
+    written (octet m 0) (octet m 1) (take (headerLength m - 4) (drop 4 m)) (emitted 0 (pieces m (map takenOuter (items book k m))))
 
 -- from type, instance, message and table a part
 abbrev pub Lookup : Type 0

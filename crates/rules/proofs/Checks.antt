@@ -67,6 +67,18 @@ Numbered lo [] (v ∷ vs) = ⊥
 Numbered lo (n ∷ ns) [] = ⊥
 Numbered lo (n ∷ ns) (v ∷ vs) = (lo < n) × ((v .code ≡ 0) ⊎ (v .code ≡ n)) × Numbered n ns vs
 
+-- the last of the numbers, or lo
+unfoldable pub lastNumber : ℕ → List ℕ → ℕ
+lastNumber lo [] = lo
+lastNumber lo (n ∷ ns) = lastNumber n ns
+
+pub numbered-append : (lo : ℕ) (ns ms : List ℕ) (vs ws : List Verdict) → Numbered lo ns vs → Numbered (lastNumber lo ns) ms ws → Numbered lo (ns ++ ms) (vs ++ ws)
+unfolding Numbered lastNumber
+numbered-append lo [] ms [] ws a c = c
+numbered-append lo [] ms (v ∷ vs) ws a c = absurd a
+numbered-append lo (n ∷ ns) ms [] ws a c = absurd a
+numbered-append lo (n ∷ ns) ms (v ∷ vs) ws a c = (a .0, a .1, numbered-append n ns ms vs ws (a .2) c)
+
 pub above : (lo : ℕ) (ns : List ℕ) (vs : List Verdict) → Numbered lo ns vs → (first vs .code ≡ 0) ⊎ (lo < first vs .code)
 unfolding first Numbered
 above lo [] [] a = inl refl

@@ -1,6 +1,6 @@
 -- What passing checks 1 to 8 says of a message, and that each check has a number of its own. Assumes nothing.
 --     passed      checks 1 to 8 pass               framed       checks 1 to 9 pass: the elements are all taken
---     judge-case, mask-case                        a number is given exactly in its own case
+--     judge-case, mask-case, clean-case            a number is given exactly in its own case
 use mathlib.Core.Path.{_≡_, refl, sym, ap, _∙_}
 use mathlib.Core.Logic.{_⊎_, inl, inr, _↔_}
 use mathlib.Core.Bool.{Bool, true, false, cond, not, _&&_, _||_, Bool·beq}
@@ -17,10 +17,11 @@ use Rattle.rules.specs.Types.{among}
 use Rattle.rules.specs.Listings.{Book, Line, Message, listing, messageOf, isMessage}
 use Rattle.rules.specs.Standing.{Item}
 use Rattle.rules.specs.Taking.{Out, cut, whole, taken, bodyLevel}
-use Rattle.rules.specs.Verdicts.{accepted, refused, check, refuses, first, cutCheck, shortCheck, shortChecks, shortVerdict, levelChecks, insideChecks, groupChecks, lackChecks, lackVerdict, headerChecks, framingChecks, items, roomCheck, copyCheck, judgeChecks, maskChecks, judgeNumbers, maskNumbers}
+use Rattle.rules.specs.Verdicts.{accepted, refused, check, refuses, first, cutCheck, shortCheck, shortChecks, shortVerdict, levelChecks, insideChecks, groupChecks, lackChecks, lackVerdict, headerChecks, framingChecks, items, copyCheck, tableChecks, judgeChecks, maskChecks, framingNumbers, judgeNumbers, maskNumbers}
+use Rattle.rules.specs.Cleaned.{tooShort, cleanChecks, cleanNumbers}
 use Rattle.rules.specs.declared.Verdict.{Verdict}
 use Rattle.rules.proofs.Lines.{beq-same}
-use Rattle.rules.proofs.Checks.{AllPass, all-pass, Numbered, OwnCase, in-its-case}
+use Rattle.rules.proofs.Checks.{AllPass, all-pass, Numbered, lastNumber, numbered-append, OwnCase, in-its-case}
 
 pub record Passed (b : Book) (k : ℕ) (m : List ℕ) : Type 0 where
   pub kind : among k (b .kinds) ≡ true
@@ -141,10 +142,10 @@ unfolding lackChecks
 lacks-code b k v is =
     code-append 12 (levelChecks k is 0 0 (listing b v)) (groupChecks b k is 0 is) (level-code k is 0 0 (listing b v)) (groups-code b k is 0 is)
 
-module _ (b : Book) (k : ℕ) (m : List ℕ) (room : ℕ) where
-  judge-numbered : Numbered 0 judgeNumbers (judgeChecks b k m room)
-  unfolding judgeChecks framingChecks headerChecks Numbered
-  judge-numbered = (
+module _ (b : Book) (k : ℕ) (m : List ℕ) where
+  framing-numbered : Numbered 0 framingNumbers (framingChecks b k m)
+  unfolding framingChecks headerChecks Numbered
+  framing-numbered = (
     omega arith,
     check-code 1 _ _ refl,
     (
@@ -162,27 +163,7 @@ module _ (b : Book) (k : ℕ) (m : List ℕ) (room : ℕ) where
             (
               omega arith,
               check-code 6 _ _ refl,
-              (
-                omega arith,
-                check-code 7 _ _ refl,
-                (
-                  omega arith,
-                  check-code 8 _ _ refl,
-                  (
-                    omega arith,
-                    cut-code (taken b k m),
-                    (
-                      omega arith,
-                      check-code 10 _ _ refl,
-                      (
-                        omega arith,
-                        first-code 11 (shortChecks (items b k m)) (shorts-code (items b k m)),
-                        (omega arith, first-code 12 (lackChecks b k (bodyLevel b m) (items b k m)) (lacks-code b k (bodyLevel b m) (items b k m)), tt),
-                      ),
-                    ),
-                  ),
-                ),
-              ),
+              (omega arith, check-code 7 _ _ refl, (omega arith, check-code 8 _ _ refl, (omega arith, cut-code (taken b k m), tt))),
             ),
           ),
         ),
@@ -190,44 +171,32 @@ module _ (b : Book) (k : ℕ) (m : List ℕ) (room : ℕ) where
     ),
   )
 
-  mask-numbered : Numbered 0 maskNumbers (maskChecks b k m room)
-  unfolding maskChecks framingChecks headerChecks Numbered
-  mask-numbered = (
-    omega arith,
-    check-code 1 _ _ refl,
-    (
-      omega arith,
-      check-code 2 _ _ refl,
-      (
-        omega arith,
-        check-code 3 _ _ refl,
-        (
-          omega arith,
-          check-code 4 _ _ refl,
-          (
-            omega arith,
-            check-code 5 _ _ refl,
-            (
-              omega arith,
-              check-code 6 _ _ refl,
-              (
-                omega arith,
-                check-code 7 _ _ refl,
-                (
-                  omega arith,
-                  check-code 8 _ _ refl,
-                  (omega arith, cut-code (taken b k m), (omega arith, check-code 13 _ _ refl, tt)),
-                ),
-              ),
-            ),
-          ),
-        ),
-      ),
-    ),
-  )
+  -- checks after those
+  numbered : (ns : List ℕ) (vs : List Verdict) → Numbered 9 ns vs → Numbered 0 (framingNumbers ++ ns) (framingChecks b k m ++ vs)
+  unfolding lastNumber
+  numbered ns vs a = numbered-append 0 framingNumbers ns (framingChecks b k m) vs framing-numbered a
 
-  pub judge-case : (j : ℕ) → j < 12 → (first (judgeChecks b k m room) .code ≡ getD judgeNumbers j 0) ↔ OwnCase (judgeChecks b k m room) j
-  judge-case j l = in-its-case 0 judgeNumbers (judgeChecks b k m room) judge-numbered j l
+  short-code : (shortVerdict (items b k m) .code ≡ 0) ⊎ (shortVerdict (items b k m) .code ≡ 11)
+  short-code = first-code 11 (shortChecks (items b k m)) (shorts-code (items b k m))
 
-  pub mask-case : (j : ℕ) → j < 10 → (first (maskChecks b k m room) .code ≡ getD maskNumbers j 0) ↔ OwnCase (maskChecks b k m room) j
-  mask-case j l = in-its-case 0 maskNumbers (maskChecks b k m room) mask-numbered j l
+  lack-code : (lackVerdict b k (bodyLevel b m) (items b k m) .code ≡ 0) ⊎ (lackVerdict b k (bodyLevel b m) (items b k m) .code ≡ 12)
+  lack-code = first-code 12 (lackChecks b k (bodyLevel b m) (items b k m)) (lacks-code b k (bodyLevel b m) (items b k m))
+
+  module _ (room : ℕ) where
+    pub judge-case : (j : ℕ) → j < 12 → (first (judgeChecks b k m room) .code ≡ getD judgeNumbers j 0) ↔ OwnCase (judgeChecks b k m room) j
+    unfolding judgeChecks Numbered
+    judge-case j l =
+        in-its-case 0 judgeNumbers (judgeChecks b k m room)
+        (numbered (10 ∷ 11 ∷ 12 ∷ []) (tableChecks b k m room) (omega arith, check-code 10 _ _ refl, (omega arith, short-code, (omega arith, lack-code, tt)))) j l
+
+    pub mask-case : (j : ℕ) → j < 10 → (first (maskChecks b k m room) .code ≡ getD maskNumbers j 0) ↔ OwnCase (maskChecks b k m room) j
+    unfolding maskChecks Numbered
+    mask-case j l =
+        in-its-case 0 maskNumbers (maskChecks b k m room) (numbered (13 ∷ []) (copyCheck b k m room ∷ []) (omega arith, check-code 13 _ _ refl, tt)) j l
+
+    pub clean-case : (j : ℕ) → j < 12 → (first (cleanChecks b k m room) .code ≡ getD cleanNumbers j 0) ↔ OwnCase (cleanChecks b k m room) j
+    unfolding cleanChecks Numbered
+    clean-case j l =
+        in-its-case 0 cleanNumbers (cleanChecks b k m room)
+        (numbered (11 ∷ 12 ∷ 13 ∷ []) (shortVerdict (items b k m) ∷ lackVerdict b k (bodyLevel b m) (items b k m) ∷ tooShort b k m room ∷ [])
+        (omega arith, short-code, (omega arith, lack-code, (omega arith, check-code 13 _ _ refl, tt)))) j l

@@ -11,11 +11,13 @@ use Rattle.rules.specs.Taking.{Out, cut, whole, taken, bodyLevel, itemsI
 use Rattle.rules.specs.Table.{rowsOf, keptRows, laid, fitting}
 use Rattle.rules.specs.Verdicts.{accepted, first, refuses, headerChecks, framingChecks, shortVerdict, lackVerdict, items, judgeVerdict, maskVerdict, judgeTable}
 use Rattle.rules.specs.Covered.{maskCopy}
+use Rattle.rules.specs.Cleaned.{cleanVerdict, cleanLength, cleanCopy}
 use Rattle.rules.specs.Values.{Stands, deskSpan, plainSpan}
-use Rattle.rules.specs.Octets.{fiveLaid, tableRoom, judgeOctets}
+use Rattle.rules.specs.Octets.{fiveLaid, answerLaid, tableRoom, judgeOctets}
 use Rattle.rules.specs.declared.Verdict.{Verdict}
 use Rattle.rules.specs.declared.Reading.{Reading}
 use Rattle.rules.specs.declared.Decision.{Decision}
+use Rattle.rules.specs.declared.Sent.{Sent}
 
 -- ---- the reading of a message
 
@@ -67,6 +69,13 @@ pub record Masked (kind : ℕ) (message copy : List ℕ) (answer : Verdict) (cop
   pub answers : answer ≡ maskVerdict book kind message (length copy)
   pub copy-left : copy′ ≡ maskCopy book kind message copy
 
+-- ---- the cleaned copy
+
+pub record Cleans (kind : ℕ) (message out : List ℕ) (answer : Sent) (out′ : List ℕ) : Type 0 where
+  pub verdict-is : answer .verdict ≡ cleanVerdict book kind message (length out)
+  pub length-is : answer .length ≡ cleanLength book kind message (length out)
+  pub out-left : out′ ≡ cleanCopy book kind message out
+
 -- ---- the lookups and their companions
 
 abbrev pub Plain : ℕ → ℕ → RefT (List ℕ) → List ℕ → RefT (List ℕ) → Type 0
@@ -94,3 +103,8 @@ pub record MaskedOctets (kind : ℕ) (message copy five : List ℕ) (code : ℕ)
   pub answers : code ≡ maskVerdict book kind message (length copy) .code
   pub copy-left : copy′ ≡ maskCopy book kind message copy
   pub five-left : five′ ≡ fiveLaid (maskVerdict book kind message (length copy)) five
+
+pub record CleanedOctets (kind : ℕ) (message clean answer : List ℕ) (code : ℕ) (clean′ answer′ : List ℕ) : Type 0 where
+  pub answers : code ≡ cleanVerdict book kind message (length clean) .code
+  pub clean-left : clean′ ≡ cleanCopy book kind message clean
+  pub answer-left : answer′ ≡ answerLaid (cleanVerdict book kind message (length clean)) (cleanLength book kind message (length clean)) answer

@@ -10,7 +10,10 @@ pub mod Verdicts
 pub mod Covered
 pub mod Values
 pub mod Octets
+pub mod Emitting
+pub mod Cleaned
 pub mod Answers
 pub mod Program
 pub mod Examples
+pub mod CleanExamples
 pub mod Sound

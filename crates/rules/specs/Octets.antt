@@ -4,7 +4,7 @@ use mathlib.Core.Bool.{Bool, true, false, cond}
 use mathlib.Core.List.{List, [], _∷_}
 use lib.Dec.{ltb}
 use lib.ListN.{length}
-use Rattle.rules.specs.Sizes.{fiveOctets}
+use Rattle.rules.specs.Sizes.{fiveOctets, answerOctets}
 use Rattle.rules.specs.Listings.{Book}
 use Rattle.rules.specs.Table.{laid, tableOf}
 use Rattle.rules.specs.Verdicts.{items, refuses, judgeVerdict}
@@ -20,6 +20,13 @@ five v = v .code ∷ v .cause ∷ v .place ∷ v .typ ∷ v .inst ∷ []
 -- written where there is room for all ten octets, and over those alone (rule 9.3)
 unfoldable pub fiveLaid : Verdict → List ℕ → List ℕ
 fiveLaid v buffer = cond (ltb (length buffer) fiveOctets) buffer (laid (octetsOf (five v)) buffer)
+
+-- the same with one more number, the length of what is written: all twelve octets or none (rule 9.4)
+abbrev pub six : Verdict → ℕ → List ℕ
+six v n = v .code ∷ v .cause ∷ v .place ∷ v .typ ∷ v .inst ∷ n ∷ []
+
+unfoldable pub answerLaid : Verdict → ℕ → List ℕ → List ℕ
+answerLaid v n buffer = cond (ltb (length buffer) answerOctets) buffer (laid (octetsOf (six v n)) buffer)
 
 -- whole numbers only: an odd octet at the end is left alone (rule 9.2)
 abbrev pub tableRoom : List ℕ → ℕ

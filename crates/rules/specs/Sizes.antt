@@ -24,3 +24,7 @@ used rows = headerNumbers + rowNumbers * rows
 -- the octets of the five numbers of a verdict
 abbrev pub fiveOctets : ℕ
 fiveOctets = 10
+
+-- and with the length of what is written
+abbrev pub answerOctets : ℕ
+answerOctets = 12

@@ -156,9 +156,12 @@ module _ (b : Book) (k : ℕ) (m : List ℕ) where
   unfoldable pub judgeTable : List ℕ → List ℕ
   judgeTable table = cond (refuses (judgeVerdict (length table))) table (laid (tableOf items) table)
 
--- the numbers that the judge gives, in the order of its checks, and those of the masker
+-- the numbers of checks 1 to 9; those that the judge gives, in the order of its checks, and those of the masker
+abbrev pub framingNumbers : List ℕ
+framingNumbers = 1 ∷ 2 ∷ 3 ∷ 4 ∷ 5 ∷ 6 ∷ 7 ∷ 8 ∷ 9 ∷ []
+
 abbrev pub judgeNumbers : List ℕ
-judgeNumbers = 1 ∷ 2 ∷ 3 ∷ 4 ∷ 5 ∷ 6 ∷ 7 ∷ 8 ∷ 9 ∷ 10 ∷ 11 ∷ 12 ∷ []
+judgeNumbers = framingNumbers ++ (10 ∷ 11 ∷ 12 ∷ [])
 
 abbrev pub maskNumbers : List ℕ
-maskNumbers = 1 ∷ 2 ∷ 3 ∷ 4 ∷ 5 ∷ 6 ∷ 7 ∷ 8 ∷ 9 ∷ 13 ∷ []
+maskNumbers = framingNumbers ++ (13 ∷ [])

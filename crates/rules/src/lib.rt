@@ -37,6 +37,12 @@ pub struct Decision {
     pub kept: usize,
 }
 
+// What is answered where a message is written: the verdict, and how many octets were written, 0 if refused.
+pub struct Sent {
+    pub verdict: Verdict,
+    pub length: usize,
+}
+
 // Where a value stands in a buffer, and whether a row has one that lies in it. Not there: 0, 0, no.
 pub struct Span {
     pub start: usize,

@@ -15,12 +15,13 @@ use Rattle.rules.specs.Types.{among}
 use Rattle.rules.specs.Listings.{Book}
 use Rattle.rules.specs.Sound.{sound}
 use Rattle.rules.specs.Verdicts.{accepted, refuses, first, judgeChecks, maskChecks, judgeVerdict, maskVerdict, judgeNumbers, maskNumbers}
+use Rattle.rules.specs.Cleaned.{cleanChecks, cleanVerdict, cleanNumbers}
 use Rattle.rules.specs.declared.Verdict.{Verdict}
 use Rattle.rules.proofs.Checks.{AllPass, all-pass, first-pass, OwnCase}
-use Rattle.rules.proofs.Header.{judge-case, mask-case}
+use Rattle.rules.proofs.Header.{judge-case, mask-case, clean-case}
 use Rattle.verdicts.specs.Conditions.{judgeConditions, maskConditions}
 use Rattle.tables.proofs.Tests.{clash, or-left, or-right}
-use Rattle.verdicts.proofs.Cases.{Step, none-applies, judge-step, mask-step, judge-count, mask-count}
+use Rattle.verdicts.proofs.Cases.{Step, none-applies, judge-step, mask-step, judge-count, mask-count, clean-count}
 
 pass-all : (vs : List Verdict) → ((i : ℕ) → i < length vs → refuses (getD vs i accepted) ≡ false) → AllPass vs
 unfolding AllPass
@@ -90,3 +91,6 @@ module _ (b : Book) (fine : sound b ≡ true) (k : ℕ) (m : List ℕ) (room : �
 
   pub mask-codes : OneOf maskNumbers (maskVerdict b k m room)
   mask-codes = one-of (maskChecks b k m room) maskNumbers (mask-count b k m room) (λ j l. mask-case b k m room j l .1)
+
+  pub clean-codes : OneOf cleanNumbers (cleanVerdict b k m room)
+  clean-codes = one-of (cleanChecks b k m room) cleanNumbers (clean-count b k m room) (λ j l. clean-case b k m room j l .1)

@@ -20,6 +20,7 @@ use Rattle.rules.specs.Taking.{Out, cut, whole, taken, bodyLevel}
 use Rattle.rules.specs.Sound.{sound}
 use Rattle.rules.specs.Table.{tableOf}
 use Rattle.rules.specs.Verdicts.{accepted, refused, refusedAt, invalidLength, check, refuses, first, cutCheck, headerChecks, framingChecks, items, shortVerdict, lackVerdict, tableChecks, copyCheck, judgeChecks, maskChecks, judgeVerdict, maskVerdict, judgeNumbers, maskNumbers}
+use Rattle.rules.specs.Cleaned.{cleanChecks}
 use Rattle.rules.specs.declared.Verdict.{Verdict}
 use Rattle.rules.proofs.Mets.{cut-met, met-cut}
 use Rattle.rules.proofs.Checks.{AllPass, all-pass, OwnCase}
@@ -195,6 +196,10 @@ module _ (b : Book) (k : ℕ) (m : List ℕ) (room : ℕ) where
   pub mask-count : length (maskChecks b k m room) ≡ 10
   unfolding maskChecks framingChecks headerChecks
   mask-count = refl
+
+  pub clean-count : length (cleanChecks b k m room) ≡ 12
+  unfolding cleanChecks framingChecks headerChecks
+  clean-count = refl
 
 -- ---- what each number comes with
 

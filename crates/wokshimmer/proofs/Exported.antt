@@ -1,4 +1,4 @@
--- What the exports leave: the judge's from the decision and what is stored of it, the masker's from the masker. Assumes nothing.
+-- What the exports leave: the judge's from the decision and what is stored of it, the masker's from the masker, the cleaner's from the cleaner. Assumes nothing.
 use mathlib.Core.Path.{_≡_, refl, ap, _∙_}
 use mathlib.Core.Bool.{Bool, true, false, cond}
 use mathlib.Core.List.{List}
@@ -10,10 +10,13 @@ use Rattle.rules.specs.Sizes.{rowNumbers}
 use Rattle.rules.specs.Listings.{book}
 use Rattle.rules.specs.Table.{tableOf, laid}
 use Rattle.rules.specs.Verdicts.{refuses, items}
-use Rattle.rules.specs.Octets.{octetsOf, fiveLaid, tableRoom, judgeOctets}
-use Rattle.rules.specs.Answers.{Decided, JudgedOctets, Masked, MaskedOctets}
+use Rattle.rules.specs.Octets.{octetsOf, fiveLaid, answerLaid, tableRoom, judgeOctets}
+use Rattle.rules.specs.Answers.{Decided, JudgedOctets, Masked, MaskedOctets, Cleans, CleanedOctets}
 use Rattle.rules.specs.declared.Verdict.{Verdict}
 use Rattle.rules.specs.declared.Decision.{Decision}
+use Rattle.rules.specs.declared.Sent.{Sent}
+use Rattle.rules.proofs.Book.{book-sound}
+use Rattle.emitted.proofs.Refusals.{clean-most}
 use Rattle.judging.proofs.Accepted.{Ready, verdict-is, ready}
 use Rattle.octets.specs.Stored.{tableStored}
 use Rattle.octets.proofs.Tables.{fits}
@@ -46,3 +49,15 @@ masked-octets {five = five} x f = record {
   copy-left = x .copy-left;
   five-left = f ∙ ap (λ (u : Verdict). fiveLaid u five) (x .answers);
 }
+
+pub cleaned-octets : {k : ℕ} {m clean answer clean′ answer′ : List ℕ} {s : Sent} → Cleans k m clean s clean′ → answer′ ≡ answerLaid (s .verdict) (s .length) answer
+    → CleanedOctets k m clean answer (s .verdict .code) clean′ answer′
+cleaned-octets {answer = answer} x f = record {
+  answers = ap (λ (u : Verdict). u .code) (x .verdict-is);
+  clean-left = x .out-left;
+  answer-left = f ∙ rw (x .verdict-is, x .length-is);
+}
+
+-- the length has 16 bits
+pub length-most : {k : ℕ} {m clean clean′ : List ℕ} {s : Sent} → Cleans k m clean s clean′ → s .length ≤ 65535
+length-most {k} {m} {clean} x = omega (arith, x .length-is, clean-most book book-sound k m (length clean))

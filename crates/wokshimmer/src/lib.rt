@@ -1,5 +1,5 @@
 // The exports to C: numbers go as octets, and the code is the result.
-ghost use Rattle.rules.specs.Answers.{JudgedOctets, MaskedOctets};
+ghost use Rattle.rules.specs.Answers.{JudgedOctets, MaskedOctets, CleanedOctets};
 ghost use Rattle.wokshimmer.specs.Exports.{Stored};
 use rules::Decision;
 
@@ -50,4 +50,16 @@ pub extern "C" fn wok_mask(kind: u32, message: &[u8], copy: &mut [u8], five: &mu
     let verdict = masking::mask(kind, message, copy);
     octets::put_five(verdict, five);
     verdict.code
+}
+
+// The verdict's code; its five numbers and the length of the cleaned copy go to `answer`, and if nothing refuses the copy to `clean`.
+#[no_mangle]
+pub extern "C" fn wok_clean(kind: u32, message: &[u8], clean: &mut [u8], answer: &mut [u8]) -> u16
+    ensures { λ r. ⌜ CleanedOctets kind (now (message .entry)) (now (clean .entry)) (now (answer .entry)) r (now (clean .exit)) (now (answer .exit)) ⌝ }
+{
+    let s = cleaning::clean(kind, message, clean);
+    let v = s.verdict;
+    let length = s.length;
+    octets::put_answer(v, length as u16, answer);
+    v.code
 }

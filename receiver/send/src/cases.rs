@@ -7,6 +7,7 @@ const LONGEST: usize = 5_000;
 const LONGEST_MESSAGE: usize = 4_096;
 const TABLE_OCTETS: usize = 2 * (4 + 6 * 1_022);
 const FIVE_OCTETS: usize = 10;
+const ANSWER_OCTETS: usize = 12;
 const CODES: usize = 14;
 /// Codes that no datagram gets: each port has its kind, and the buffers are large enough.
 const NEVER: [usize; 3] = [1, 10, 13];
@@ -17,6 +18,7 @@ pub struct Sent {
     pub case: Case,
     judge: [u8; FIVE_OCTETS],
     mask: [u8; FIVE_OCTETS],
+    clean: [u8; ANSWER_OCTETS],
 }
 
 impl Sent {
@@ -24,7 +26,9 @@ impl Sent {
         let (mut judge, mut mask) = ([0; FIVE_OCTETS], [0; FIVE_OCTETS]);
         second::judge_octets(case.kind, &case.message, &mut [0; TABLE_OCTETS], &mut judge);
         second::mask_octets(case.kind, &case.message, &mut [0; LONGEST_MESSAGE], &mut mask);
-        Self { case, judge, mask }
+        let mut clean = [0; ANSWER_OCTETS];
+        second::clean_octets(case.kind, &case.message, &mut [0; LONGEST_MESSAGE], &mut clean);
+        Self { case, judge, mask, clean }
     }
 
     pub fn port(&self) -> usize {
@@ -32,16 +36,23 @@ impl Sent {
     }
 
     pub fn answer(&self) -> Vec<u8> {
-        [self.judge, self.mask].concat()
+        [&self.judge[..], &self.mask, &self.clean].concat()
+    }
+
+    /// How long the cleaned copy is.
+    pub fn cleaned(&self) -> usize {
+        usize::from(u16::from_be_bytes([self.clean[10], self.clean[11]]))
     }
 }
 
-/// So many datagrams: those at the edges of size first, then generated ones.
+/// So many datagrams: those at the edges of size first, then generated ones, and an Echo Request whose cleaned copy is shorter than its
+/// masked one.
 pub fn cases(count: usize) -> Vec<Sent> {
     let edges = (1..=3).flat_map(|kind| edges().map(|message| Case { kind, message }));
     let fits = |case: &Case| (1..=3).contains(&case.kind) && case.message.len() <= LONGEST;
     let generated = Generator::new(SEED).filter(fits);
-    edges.chain(generated).take(count).map(Sent::new).collect()
+    let last = Case { kind: 1, message: vec![0x40, 1, 0, 15, 0, 0, 1, 0, 3, 0, 1, 0, 7, 200, 0, 2, 0, 1, 2] };
+    edges.chain(generated).take(count - 1).chain([last]).map(Sent::new).collect()
 }
 
 /// An empty datagram, a good message of 4,096 octets, and the same with octets after it.
@@ -56,17 +67,18 @@ fn edges() -> [Vec<u8>; 4] {
     [Vec::new(), longer(LONGEST_MESSAGE), longer(LONGEST_MESSAGE + 1), longer(LONGEST)]
 }
 
-/// How many of the judge's and of the masker's verdicts have each code.
-pub fn counts(sent: &[Sent]) -> (Counts, Counts) {
-    let (mut judge, mut mask) = (vec![0; CODES], vec![0; CODES]);
+/// How many of the judge's, of the masker's and of the cleaner's verdicts have each code.
+pub fn counts(sent: &[Sent]) -> [Counts; 3] {
+    let mut counts = [vec![0; CODES], vec![0; CODES], vec![0; CODES]];
     for one in sent {
-        judge[usize::from(one.judge[1])] += 1;
-        mask[usize::from(one.mask[1])] += 1;
+        for (count, code) in counts.iter_mut().zip([one.judge[1], one.mask[1], one.clean[1]]) {
+            count[usize::from(code)] += 1;
+        }
     }
-    (judge, mask)
+    counts
 }
 
-/// Whether the judge gave every code that it can give here.
-pub fn all_reached(judge: &[usize]) -> bool {
-    (0..CODES).all(|code| NEVER.contains(&code) == (judge[code] == 0))
+/// Whether every code was given that judge and cleaner can give here.
+pub fn all_reached(counts: &[usize]) -> bool {
+    (0..CODES).all(|code| NEVER.contains(&code) == (counts[code] == 0))
 }

@@ -35,10 +35,12 @@ fn main() -> ExitCode {
 
 fn run(program: &str) -> Outcome<(u32, u32)> {
     let sent = cases::cases(DATAGRAMS);
-    let (judge, mask) = cases::counts(&sent);
+    let [judge, mask, clean] = cases::counts(&sent);
     let mut receiver = Receiver::start(program, Instant::now() + LONGEST_RUN)?;
     let began = Instant::now();
-    let wrong = exchange(&receiver, &sent)?;
+    // The last one alone, since the order between ports is open: its copies are those that the receiver keeps.
+    let (last, others) = sent.split_last().ok_or("nothing to send")?;
+    let wrong = exchange(&receiver, others)? + exchange(&receiver, std::slice::from_ref(last))?;
     let rate = sent.len() as f64 / began.elapsed().as_secs_f64();
     let total = receiver.stop()?;
     println!("{} datagrams, {rate:.0} a second, {wrong} answers differ", sent.len());
@@ -48,7 +50,10 @@ fn run(program: &str) -> Outcome<(u32, u32)> {
         ("datagrams", printed(&total, "datagrams", 1)? == [sent.len()]),
         ("judge counts", printed(&total, "judge", judge.len())? == judge),
         ("mask counts", printed(&total, "mask", mask.len())? == mask),
-        ("every code a datagram can get", cases::all_reached(&judge)),
+        ("clean counts", printed(&total, "clean", clean.len())? == clean),
+        ("every code a datagram can get", cases::all_reached(&judge) && cases::all_reached(&clean)),
+        ("the last masked copy", printed(&total, "copy", 1)? == [last.case.message.len()]),
+        ("the last cleaned copy", printed(&total, "cleaned", 1)? == [last.cleaned()] && last.cleaned() == 13),
         ("rate", rate > LEAST_RATE),
     ];
     for (name, _) in checks.iter().filter(|(_, good)| !good) {

@@ -4,7 +4,7 @@
 use super::random::Random;
 use super::{Case, Generator};
 use crate::rules::Rules;
-use crate::{Verdict, DOCUMENT};
+use crate::{Answer, Verdict, DOCUMENT};
 
 impl Case {
     /// The numbers that the judge's table needs for this case.
@@ -22,21 +22,42 @@ impl Case {
     /// Lengths of lent copies: one short, exact, longer, and none.
     pub fn copy_lengths(&self) -> Vec<usize> {
         let length = self.message.len();
-        vec![length.saturating_sub(1), length, length + 1, length + 20, 0]
+        around(length)
+    }
+
+    /// The octets that the cleaner's copy needs for this case, also where 11 or
+    /// 12 refuse it; those of the message where its framing is broken.
+    pub fn clean_need(&self) -> usize {
+        let cleaned = DOCUMENT.cleaned(self.kind, &self.message);
+        cleaned.map_or(self.message.len(), |cleaned| cleaned.len())
+    }
+
+    /// Lengths of lent cleaned copies: as for copies.
+    pub fn clean_lengths(&self) -> Vec<usize> {
+        around(self.clean_need())
     }
 }
 
+/// One short, exact, longer, and none.
+fn around(need: usize) -> Vec<usize> {
+    vec![need.saturating_sub(1), need, need + 1, need + 20, 0]
+}
+
 /// Lengths in octets of the buffers lent with a case: the judge's table, the
-/// masker's copy, and the five numbers of either.
+/// masker's copy, the five numbers of either, the cleaner's copy and its answer.
 #[derive(Debug, Clone, Copy, PartialEq, Eq)]
 pub struct Buffers {
     pub table: usize,
     pub copy: usize,
     pub five: usize,
+    pub clean: usize,
+    pub answer: usize,
 }
 
 /// Lengths for the five numbers: exact, longer, one short, none.
 const FIVES: [usize; 5] = [10, 11, 13, 9, 0];
+/// Lengths for the five numbers and a length: exact, longer, one short, none.
+pub const ANSWERS: [usize; 4] = [12, 15, 11, 0];
 
 impl Case {
     /// As much as the case needs.
@@ -45,6 +66,8 @@ impl Case {
             table: 2 * self.table_need(),
             copy: self.message.len(),
             five: 2 * Verdict::NUMBERS,
+            clean: self.clean_need(),
+            answer: 2 * Answer::NUMBERS,
         }
     }
 
@@ -56,12 +79,15 @@ impl Case {
         let enough = Buffers {
             table: enough.table + random.below(2),
             five: *random.pick(&FIVES[..3]),
+            answer: *random.pick(&ANSWERS[..2]),
             ..enough
         };
         let some = Buffers {
             table: 2 * random.pick(&self.table_lengths()) + random.below(2),
             copy: *random.pick(&self.copy_lengths()),
             five: *random.pick(&FIVES),
+            clean: *random.pick(&self.clean_lengths()),
+            answer: *random.pick(&ANSWERS),
         };
         [enough, some]
     }

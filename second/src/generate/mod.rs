@@ -10,7 +10,7 @@ mod limits;
 mod random;
 
 pub use figures::figures;
-pub use lend::{hostile_tables, Ask, Buffers, Lookup};
+pub use lend::{hostile_tables, Ask, Buffers, Lookup, ANSWERS};
 pub use random::Random;
 
 use crate::DOCUMENT;

@@ -1,14 +1,14 @@
 //! What the gate's messages and lookups meet, counted: nothing fewer than ten
 //! times.
 
-use std::collections::BTreeMap;
+use std::collections::{BTreeMap, BTreeSet};
 
 use crate::support::judged;
-use second::generate::{figures, Ask, Case, Generator, Lookup};
+use second::generate::{figures, Ask, Case, Generator, Lookup, ANSWERS};
 use second::listings::Line;
 use second::rules::Standing;
 use second::walk::Row;
-use second::{judge, mask, DOCUMENT};
+use second::{clean, judge, mask, DOCUMENT};
 
 const AT_LEAST: usize = 10;
 
@@ -137,7 +137,7 @@ fn count_lent(counts: &mut Counts, what: &str, code: u16, lent: usize, need: usi
 #[test]
 fn tables_and_copies_of_every_length() {
     let mut counts = Counts::default();
-    for (what, code) in [("table", 10), ("copy", 13)] {
+    for (what, code) in [("table", 10), ("copy", 13), ("clean", 13)] {
         counts.expect(format!("{what} one short: code {code}"));
         counts.expect(format!("{what} none: code {code}"));
         counts.expect(format!("{what} exact: code 0"));
@@ -147,8 +147,18 @@ fn tables_and_copies_of_every_length() {
         counts.expect(format!("table exact: code {code}"));
         counts.expect(format!("table longer: code {code}"));
     }
-    counts.expect("table one short: code 9");
-    counts.expect("copy one short: code 9");
+    for what in ["table", "copy", "clean"] {
+        counts.expect(format!("{what} one short: code 9"));
+    }
+    for code in [11, 12] {
+        counts.expect(format!("clean one short: code {code}"));
+        counts.expect(format!("clean none: code {code}"));
+    }
+    for answer in ANSWERS {
+        for code in [0, 9, 11, 12, 13] {
+            counts.expect(format!("answer of {answer} octets: code {code}"));
+        }
+    }
     for (seed, case) in figures().iter().enumerate() {
         for lent in case.buffers(seed as u64) {
             let mut table = vec![0; lent.table / 2];
@@ -157,9 +167,78 @@ fn tables_and_copies_of_every_length() {
             let mut copy = vec![0; lent.copy];
             let code = mask(case.kind, &case.message, &mut copy).code;
             count_lent(&mut counts, "copy", code, copy.len(), case.message.len());
+            let mut copy = vec![0; lent.clean];
+            let code = clean(case.kind, &case.message, &mut copy).verdict.code;
+            count_lent(&mut counts, "clean", code, copy.len(), case.clean_need());
+            counts.count(&format!("answer of {} octets: code {code}", lent.answer));
         }
     }
     counts.assert_enough();
+}
+
+/// How the rows of accepted messages are set aside, at which level: at least so
+/// many messages have such a row.
+fn assert_set_aside(cases: impl Iterator<Item = Case>, least: usize) {
+    let standings = [Standing::Unexpected, Standing::Repeated, Standing::Short];
+    let mut met = BTreeMap::new();
+    for level in LEVELS {
+        for standing in standings {
+            met.insert(format!("{standing:?} in {level}"), 0);
+        }
+    }
+    for group in ["a 93", "a 180"] {
+        met.insert(format!("Unexpected: {group} itself"), 0);
+    }
+    met.insert("at both levels".into(), 0);
+    for case in cases {
+        if !judged(case.kind, &case.message).0.accepted() {
+            continue;
+        }
+        for name in set_aside(&case) {
+            *met.entry(name).or_default() += 1;
+        }
+    }
+    println!("{met:#?}");
+    let rare = met.iter().filter(|(_, &count)| count < least);
+    assert_eq!(rare.count(), 0, "{met:#?}");
+}
+
+/// The ways in which rows of a message are set aside.
+fn set_aside(case: &Case) -> BTreeSet<String> {
+    let rows = DOCUMENT.rows(case.kind, &case.message);
+    let rows = rows.expect("an accepted message");
+    let mut ways = BTreeSet::new();
+    let (mut outside, mut inside) = (false, false);
+    for row in rows.iter().filter(|row| row.standing != Standing::Kept) {
+        let level = match row.parent {
+            0 => "the message",
+            parent => group_name(rows[usize::from(parent) - 1].typ),
+        };
+        outside |= row.parent == 0;
+        inside |= row.parent != 0;
+        ways.insert(format!("{:?} in {level}", row.standing));
+        if DOCUMENT.facts(row.typ).group {
+            ways.insert(format!(
+                "{:?}: {} itself",
+                row.standing,
+                group_name(row.typ)
+            ));
+        }
+    }
+    if outside && inside {
+        ways.insert("at both levels".into());
+    }
+    ways
+}
+
+#[test]
+fn rows_set_aside_in_the_figures() {
+    assert_set_aside(figures().into_iter(), 100);
+}
+
+#[test]
+fn rows_set_aside_in_the_mix() {
+    assert_set_aside(Generator::new(62).take(10_000), 20);
 }
 
 /// What is expected of one line of a listing.

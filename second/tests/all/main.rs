@@ -1,6 +1,7 @@
 //! Tests of the second program, one module for each part of the rules.
 
 mod changes;
+mod clean;
 mod coverage;
 mod demands;
 mod examples;

@@ -1,8 +1,8 @@
 //! The forms for the C receiver around the edges of their buffers.
 
 use crate::support::octets;
-use second::generate::Generator;
-use second::{judge, judge_octets, mask, mask_octets, Verdict};
+use second::generate::{Generator, ANSWERS};
+use second::{clean, clean_octets, judge, judge_octets, mask, mask_octets, Verdict};
 
 fn as_octets(numbers: &[u16]) -> Vec<u8> {
     numbers.iter().flat_map(|n| n.to_be_bytes()).collect()
@@ -53,6 +53,48 @@ fn a_short_five_buffer_stops_no_other_write() {
     assert_eq!(mask_octets(1, &message, &mut copy, &mut five), 0);
     assert_eq!(copy[..], message);
     assert_eq!(five, [0xEE; 9]);
+}
+
+#[test]
+fn six_numbers_in_octets() {
+    // Example M: its last element, six octets of 19, is set aside.
+    let message = octets("40 01 00 0F 00 00 01 00 03 00 01 00 07 C8 00 02 00 11 22");
+    let mut lent = [0xEE; 15];
+    let mut answer = [0xEE; 15];
+    assert_eq!(clean_octets(1, &message, &mut lent, &mut answer), 0);
+    let d = octets("40 01 00 09 00 00 01 00 03 00 01 00 07 EE EE");
+    assert_eq!(lent[..], d);
+    let six = octets("00 00 00 00 00 00 00 00 00 00 00 0D EE EE EE");
+    assert_eq!(answer[..], six);
+    // Eleven octets are left alone, and the copy is written all the same.
+    let (mut lent, mut answer) = ([0xEE; 15], [0xEE; 11]);
+    assert_eq!(clean_octets(1, &message, &mut lent, &mut answer), 0);
+    assert_eq!((&lent[..], answer), (&d[..], [0xEE; 11]));
+    let (mut lent, mut answer) = ([0xEE; 12], [0xEE; 12]);
+    assert_eq!(clean_octets(1, &message, &mut lent, &mut answer), 13);
+    assert_eq!(lent, [0xEE; 12]);
+    assert_eq!(answer[..], octets("00 0D 00 00 00 00 00 00 00 00 00 00"));
+}
+
+#[test]
+fn clean_octets_agrees_with_clean() {
+    for case in Generator::new(33).take(10_000) {
+        for length in case.clean_lengths() {
+            let mut copy = vec![0xEE; length];
+            let cleaned = clean(case.kind, &case.message, &mut copy);
+            for length in ANSWERS {
+                let mut lent = vec![0xEE; copy.len()];
+                let mut answer = vec![0xEE; length];
+                let code = clean_octets(case.kind, &case.message, &mut lent, &mut answer);
+                assert_eq!((code, lent), (cleaned.verdict.code, copy.clone()));
+                let mut expected = vec![0xEE; length];
+                if length >= 12 {
+                    expected[..12].copy_from_slice(&as_octets(&cleaned.numbers()));
+                }
+                assert_eq!(answer, expected);
+            }
+        }
+    }
 }
 
 #[test]

@@ -31,18 +31,29 @@ struct Compared {
     standings: [u8; 256],
 }
 
-/// All that judge and masker answer and write, lent buffers of 0xEE.
-fn answer(rules: &Rules, case: &Case, lent: &Buffers) -> Vec<u8> {
-    let Buffers { table, copy, five } = *lent;
-    let mut octets = vec![0xEE; table + five + copy + five];
-    let (judged, masked) = octets.split_at_mut(table + five);
-    let (table, five) = judged.split_at_mut(table);
-    let judge = rules.judge_octets(case.kind, &case.message, table, five);
-    let (copy, five) = masked.split_at_mut(copy);
-    let mask = rules.mask_octets(case.kind, &case.message, copy, five);
-    octets.extend(judge.to_be_bytes());
-    octets.extend(mask.to_be_bytes());
+/// What a call writes into two buffers of these lengths, of 0xEE at first, and
+/// the code that it answers.
+fn left_by(lengths: [usize; 2], call: impl FnOnce(&mut [u8], &mut [u8]) -> u16) -> Vec<u8> {
+    let mut octets = vec![0xEE; lengths[0] + lengths[1]];
+    let (first, second) = octets.split_at_mut(lengths[0]);
+    let code = call(first, second);
+    octets.extend(code.to_be_bytes());
     octets
+}
+
+/// All that judge, masker and cleaner answer and write.
+fn answer(rules: &Rules, case: &Case, lent: &Buffers) -> Vec<u8> {
+    let Case { kind, message } = case;
+    let judged = left_by([lent.table, lent.five], |table, five| {
+        rules.judge_octets(*kind, message, table, five)
+    });
+    let masked = left_by([lent.copy, lent.five], |copy, five| {
+        rules.mask_octets(*kind, message, copy, five)
+    });
+    let cleaned = left_by([lent.clean, lent.answer], |clean, answer| {
+        rules.clean_octets(*kind, message, clean, answer)
+    });
+    [judged, masked, cleaned].concat()
 }
 
 impl Compared {

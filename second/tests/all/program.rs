@@ -112,6 +112,19 @@ fn mask_command() {
 }
 
 #[test]
+fn clean_command() {
+    let good = message(1, "03 00 01 00 07 C8 00 02 00 11 22");
+    let output = second(&["clean"], &input(1, &good));
+    assert!(output.status.success());
+    assert_eq!(output.stdout, message(1, "03 00 01 00 07"));
+
+    let output = second(&["clean"], &input(1, &message(1, "98 00 01 00 00")));
+    assert_eq!(output.status.code(), Some(1));
+    assert!(output.stdout.is_empty());
+    assert_eq!(output.stderr, b"refuse 12 70 0 3 0\n");
+}
+
+#[test]
 fn lookup_command() {
     let g = G.replace(' ', "");
     let table = "2,2,4,16,0,93,0,16,5,0,1,73,0,20,1,0";

@@ -1,11 +1,11 @@
-//! The samples against their verdicts worked out by hand.
+//! The samples against their verdicts and cleaned copies worked out by hand.
 
 use std::collections::BTreeSet;
 use std::fs;
 use std::path::PathBuf;
 
 use crate::support::{octets, rows, table, verdict};
-use second::{judge, mask, Verdict};
+use second::{clean, judge, mask, Verdict};
 
 fn folder() -> PathBuf {
     PathBuf::from(env!("CARGO_MANIFEST_DIR")).join("../samples")
@@ -14,6 +14,19 @@ fn folder() -> PathBuf {
 fn sample_text(name: &str) -> String {
     let path = folder().join(format!("{name}.hex"));
     fs::read_to_string(&path).unwrap_or_else(|error| panic!("{}: {error}", path.display()))
+}
+
+/// The names of the samples in a folder.
+fn names_in(folder: PathBuf) -> BTreeSet<String> {
+    let mut names = BTreeSet::new();
+    for entry in fs::read_dir(folder).expect("the samples") {
+        let path = entry.expect("an entry").path();
+        if path.extension().is_some_and(|extension| extension == "hex") {
+            let stem = path.file_stem().expect("a name");
+            names.insert(stem.to_string_lossy().into_owned());
+        }
+    }
+    names
 }
 
 fn sample(name: &str) -> Vec<u8> {
@@ -64,32 +77,40 @@ fn every_sample_has_one_line_and_every_line_a_sample() {
     for line in expected() {
         assert!(names.insert(line.name.clone()), "twice: {}", line.name);
     }
-    let mut files = BTreeSet::new();
-    for entry in fs::read_dir(folder()).expect("the samples") {
-        let path = entry.expect("an entry").path();
-        if path.extension().is_some_and(|extension| extension == "hex") {
-            let stem = path.file_stem().expect("a name");
-            files.insert(stem.to_string_lossy().into_owned());
-        }
-    }
-    assert_eq!(files, names);
+    assert_eq!(names_in(folder()), names);
 }
 
 #[test]
 fn samples_are_pairs_of_hex_digits_sixteen_a_line() {
-    for line in expected() {
-        let octets = sample(&line.name);
+    let cleaned = names_in(folder().join("cleaned"));
+    let cleaned = cleaned.iter().map(|name| format!("cleaned/{name}"));
+    for name in names_in(folder()).into_iter().chain(cleaned) {
+        let octets = sample(&name);
         let lines = octets.chunks(16).map(|octets| {
             let pairs = octets.iter().map(|octet| format!("{octet:02X}"));
             pairs.collect::<Vec<_>>().join(" ") + "\n"
         });
-        assert_eq!(
-            sample_text(&line.name),
-            lines.collect::<String>(),
-            "{}",
-            line.name
-        );
+        assert_eq!(sample_text(&name), lines.collect::<String>(), "{name}");
     }
+}
+
+/// A sample that is accepted and has no cleaned copy beside it is its own.
+#[test]
+fn cleaned_copies_are_as_expected() {
+    let differ = names_in(folder().join("cleaned"));
+    let mut met = BTreeSet::new();
+    for Expected { name, kind, .. } in expected() {
+        let message = sample(&name);
+        let mut copy = vec![0; message.len()];
+        let answer = clean(kind, &message, &mut copy);
+        copy.truncate(usize::from(answer.length));
+        if copy != message && answer.verdict.accepted() {
+            assert!(differ.contains(&name), "{name} has no cleaned copy");
+            assert_eq!(copy, sample(&format!("cleaned/{name}")), "{name}");
+            met.insert(name);
+        }
+    }
+    assert_eq!(met, differ);
 }
 
 #[test]
@@ -176,6 +197,7 @@ fn counts_of_the_realistic_samples() {
         ("echo-request", 2, 2),
         ("echo-response", 2, 2),
         ("fteid-one-octet-in-context", 10, 9),
+        ("set-aside-at-both-levels", 12, 6),
     ];
     for (name, rows, kept) in cases {
         let table = table(kind_of(name), &sample(name));

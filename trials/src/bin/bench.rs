@@ -1,5 +1,6 @@
-//! Judge and mask through the C interface against the second program: the ratio is the second program's time divided by ours, so that
-//! higher is better. Turns are interleaved, and the best of each side counts. Buffers are made once and not cleared between messages.
+//! Judge and mask, and clean alone, through the C interface against the second program: the ratio is the second program's time divided by
+//! ours, so that higher is better. Turns are interleaved, and the best of each side counts. Buffers are made once and not cleared between
+//! messages.
 use second::generate::Generator;
 use std::hint::black_box;
 use std::time::Instant;
@@ -12,9 +13,13 @@ struct Buffers {
     table: Vec<u8>,
     copy: Vec<u8>,
     five: Vec<u8>,
+    clean: Vec<u8>,
+    answer: Vec<u8>,
 }
 
-fn pass(messages: &[(u32, Vec<u8>)], judge: Call, mask: Call, buffers: &mut Buffers) -> f64 {
+type Messages = [(u32, Vec<u8>)];
+
+fn pass(messages: &Messages, judge: Call, mask: Call, buffers: &mut Buffers) -> f64 {
     let began = Instant::now();
     for (kind, message) in messages {
         black_box(judge(*kind, black_box(message), &mut buffers.table, &mut buffers.five));
@@ -23,12 +28,33 @@ fn pass(messages: &[(u32, Vec<u8>)], judge: Call, mask: Call, buffers: &mut Buff
     began.elapsed().as_secs_f64()
 }
 
-fn compare(name: &str, messages: &[(u32, Vec<u8>)]) {
-    let mut buffers = Buffers { table: vec![0; 2 * 6_136], copy: vec![0; LARGEST], five: vec![0; 10] };
+fn clean_pass(messages: &Messages, clean: Call, buffers: &mut Buffers) -> f64 {
+    let began = Instant::now();
+    for (kind, message) in messages {
+        black_box(clean(*kind, black_box(message), &mut buffers.clean, &mut buffers.answer));
+    }
+    began.elapsed().as_secs_f64()
+}
+
+fn compare(name: &str, messages: &Messages) {
+    let our = |buffers: &mut Buffers| pass(messages, trials::judge, trials::mask, buffers);
+    let their = |buffers: &mut Buffers| pass(messages, second::judge_octets, second::mask_octets, buffers);
+    best(name, messages, our, their);
+}
+
+fn compare_clean(name: &str, messages: &Messages) {
+    let our = |buffers: &mut Buffers| clean_pass(messages, trials::clean, buffers);
+    let their = |buffers: &mut Buffers| clean_pass(messages, second::clean_octets, buffers);
+    best(name, messages, our, their);
+}
+
+fn best(name: &str, messages: &Messages, our: impl Fn(&mut Buffers) -> f64, their: impl Fn(&mut Buffers) -> f64) {
+    let room = |length| vec![0; length];
+    let mut buffers = Buffers { table: room(2 * 6_136), copy: room(LARGEST), five: room(10), clean: room(LARGEST), answer: room(12) };
     let (mut ours, mut theirs) = (f64::MAX, f64::MAX);
     for _ in 0..TURNS {
-        ours = ours.min(pass(messages, trials::judge, trials::mask, &mut buffers));
-        theirs = theirs.min(pass(messages, second::judge_octets, second::mask_octets, &mut buffers));
+        ours = ours.min(our(&mut buffers));
+        theirs = theirs.min(their(&mut buffers));
     }
     let each = 1e9 / messages.len() as f64;
     println!("{name}: ours {:.0} ns, second {:.0} ns a message, ratio {:.2}", ours * each, theirs * each, theirs / ours);
@@ -53,6 +79,7 @@ fn main() {
     let octets: usize = mix.iter().map(|(_, message)| message.len()).sum();
     println!("the mix: {} messages, {} octets on average", mix.len(), octets / mix.len());
     compare("the mix", &mix);
+    compare_clean("the mix, clean alone", &mix);
     compare("1,021 rows", &vec![(1, echo(1_020, 0)); 200]);
     compare("one value of 4,075 octets", &vec![(1, echo(1, 4_075)); 200]);
 }

@@ -1,7 +1,8 @@
 //! What check 9 pins: octets left at a level, and elements that pass its end.
 
+use super::listed::mandatory_of;
 use super::value::Fit;
-use super::{levels, Figures, Level, Which};
+use super::{is_group, levels, Figures, Level, Which};
 use crate::DOCUMENT;
 
 impl Figures {
@@ -13,6 +14,7 @@ impl Figures {
             for more in [1, self.beyond(), -1] {
                 self.last_claims(&level, more);
             }
+            self.short_before(&level);
         }
     }
 
@@ -25,6 +27,22 @@ impl Figures {
         let mut draft = self.draft(level.kind, level.message, Which::Groups, Fit::Exact);
         if let Some(run) = draft.body.at(&level.path) {
             run.remnant = self.values.some(&mut self.random, left);
+        }
+        self.put_edited(level, draft);
+    }
+
+    /// A mandatory element is short, and octets are left over after it.
+    fn short_before(&mut self, level: &Level) {
+        let mut mandatory = mandatory_of(level.listing, level.kind);
+        mandatory.retain(|listed| !is_group(listed.typ));
+        if mandatory.is_empty() {
+            return;
+        }
+        let listed = *self.random.pick(&mandatory);
+        let short = self.freely(listed, Fit::Short);
+        let mut draft = self.with(level, listed, vec![short]);
+        if let Some(run) = draft.body.at(&level.path) {
+            run.remnant = self.values.some(&mut self.random, 1);
         }
         self.put_edited(level, draft);
     }

@@ -67,7 +67,7 @@ impl Figures {
     }
 
     /// The element of a line, short also where the line is mandatory.
-    fn freely(&mut self, listed: &Listed, fit: Fit) -> Element {
+    pub fn freely(&mut self, listed: &Listed, fit: Fit) -> Element {
         let inst = listed.inst.number();
         let value = self.values.next(&mut self.random, listed.typ, fit);
         Element::plain(listed.typ, inst, value)
@@ -171,7 +171,7 @@ impl Figures {
     }
 
     /// A good message with these for the elements of one line.
-    fn with(&mut self, level: &Level, listed: &Listed, elements: Vec<Element>) -> Draft {
+    pub fn with(&mut self, level: &Level, listed: &Listed, elements: Vec<Element>) -> Draft {
         let mut draft = self.draft(level.kind, level.message, Which::Groups, Fit::Exact);
         if let Some(run) = draft.body.at(&level.path) {
             run.elements.retain(|e| !listed.is(e.typ, e.inst));
@@ -183,7 +183,7 @@ impl Figures {
 }
 
 /// The lines of a listing that the kind demands.
-fn mandatory_of(listing: &'static [Listed], kind: u32) -> Vec<&'static Listed> {
+pub fn mandatory_of(listing: &'static [Listed], kind: u32) -> Vec<&'static Listed> {
     let mandatory = |listed: &&Listed| listed.mandatory && listed.kinds.has(kind);
     listing.iter().filter(mandatory).collect()
 }

@@ -1,4 +1,5 @@
-//! Changes of the checks' order, of causes and of what the lookups want.
+//! Changes of the checks' order, of causes, of what is set aside and of what the
+//! lookups want.
 
 use std::cmp::Ordering;
 
@@ -14,7 +15,11 @@ impl Changes {
         self.of_order("order of the masker's checks", |rules| {
             &mut rules.checks.mask
         });
+        self.of_order("order of the cleaner's checks", |rules| {
+            &mut rules.checks.clean
+        });
         self.of_causes();
+        self.of_cleaned();
         self.of_lookups();
     }
 
@@ -39,6 +44,15 @@ impl Changes {
                     *cause = cause.wrapping_add(by);
                 });
             }
+        }
+    }
+
+    fn of_cleaned(&mut self) {
+        for standing in 0..STANDINGS {
+            let name = format!("standing {standing}");
+            self.push("set aside", name, ON_ALL, |rules| {
+                rules.cleaned[standing] ^= true;
+            });
         }
     }
 

@@ -29,8 +29,8 @@ pub struct Bears {
     pub standing: Option<usize>,
 }
 
-/// Which comparison has to show it: that of judge and masker, that of the
-/// judge program, that of the lookups.
+/// Which comparison has to show it: that of judge, masker and cleaner, that of
+/// the judge program, that of the lookups.
 #[derive(Debug, Clone, Copy, PartialEq, Eq)]
 pub enum Shown {
     Octets,

@@ -66,6 +66,7 @@ impl Changes {
         self.size("uncounted", octets, |rules| &mut rules.sizes.uncounted);
         self.size("longest", program, |rules| &mut rules.sizes.longest);
         self.size("five", octets, |rules| &mut rules.sizes.five);
+        self.size("answer", octets, |rules| &mut rules.sizes.answer);
     }
 
     fn of_table(&mut self) {

@@ -1,0 +1,4 @@
+pub mod Fronts
+pub mod Settling
+pub mod Bridge
+pub mod Cleans

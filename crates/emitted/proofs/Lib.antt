@@ -1,0 +1,13 @@
+pub mod Forests
+pub mod Elements
+pub mod Again
+pub mod Fewer
+pub mod Runs
+pub mod Same
+pub mod Lacking
+pub mod Written
+pub mod Wholes
+pub mod Cleaning
+pub mod KeptRows
+pub mod Refusals
+pub mod Octets
