@@ -68,8 +68,8 @@ uint16_t wok_judge(uint32_t kind, const uint8_t *message, size_t message_len, ui
 
 /*
  * Makes a masked copy of a message: every octet that the rules cover is zero, every other one is the message's own. Covered are the values of
- * IMSI (1), MEI (75), MSISDN (76), PCO (78), User Location Information (86) and private extensions (255), the address in PDN Address
- * Allocation (79), and all values of standing WOK_UNEXPECTED and WOK_REPEATED. NOT covered are APN, TEIDs, F-TEID addresses, traffic filters
+ * IMSI (1), MEI (75), MSISDN (76), PCO (78) and private extensions (255), the places in User Location Information (86), the address in PDN
+ * Address Allocation (79), and all values of standing WOK_UNEXPECTED and WOK_REPEATED. NOT covered are APN, TEIDs, F-TEID addresses, traffic filters
  * and whatever else: docs/COVERED.md.
  * Answers the code: 1 to 9, 13, or 0 where the copy is made; 10, 11 and 12 do not stop it. The copy, judged, gets the message's own verdict
  * and table. Octets past the message's length stay; on a refusal the whole copy stays as it was. The five numbers as above.

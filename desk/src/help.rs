@@ -45,7 +45,7 @@ A capture gives a capture: the same packets with masked messages, times and addr
 messages that cannot be masked are left out; the latter are listed with the reason, and the exit status is 1.
   --hex   as hex text that text2pcap reads
 
-Made zero: IMSI, MSISDN, MEI, user location, PCO and private extensions whole; the address in PDN Address Allocation; every element that is
+Made zero: IMSI, MSISDN, MEI, PCO and private extensions whole; the places in User Location; the address in PDN Address Allocation; every element that is
 not listed or repeated.
 NOT made zero: APN, TEIDs, addresses of gateways (F-TEID, and the packets' own), traffic filters, time zone, serving network, charging
 identities, trace references, lengths, the sequence number.

@@ -6,7 +6,7 @@ use Prim.Native.Nat.{ℕ, _≤_, _<_}
 use native.Mathlib.Omega.{arith}
 use borrow.Author.Tests.{ne-eqb, ltb-true, ltb-false}
 use lib.Dec.{ltb}
-use Rattle.rules.specs.Types.{among, groups, isGroup, wholeTypes, coversWhole, coversRest}
+use Rattle.rules.specs.Types.{among, groups, isGroup, wholeTypes, coversWhole, restTypes, coversRest}
 use Rattle.rules.specs.Covered.{openOctets}
 use Rattle.rules.proofs.Lines.{and-left, and-right}
 use Rattle.facts.specs.Facts.{facts, groupIn, openIn}
@@ -36,8 +36,8 @@ module _ (t : ℕ) (l : 256 ≤ t) where
   not-whole = none-among t wholeTypes refl l
 
   not-rest : coversRest t ≡ false
-  unfolding coversRest
-  not-rest = ne-eqb t 79 (λ e. omega arith)
+  unfolding coversRest restTypes allBelow
+  not-rest = none-among t restTypes refl l
 
 same-group : (t : ℕ) → isGroup (typeOctet t) ≡ isGroup t
 unfolding typeOctet isGroup groups
@@ -48,7 +48,7 @@ same-group t = go (ltb t 256) refl
     go false e = rw (no-group t (ltb-false t 256 e))
 
 same-open : (t s n : ℕ) → openOctets (typeOctet t) s n ≡ openOctets t s n
-unfolding typeOctet openOctets coversWhole coversRest wholeTypes
+unfolding typeOctet openOctets coversWhole coversRest wholeTypes restTypes
 same-open t s n = go (ltb t 256) refl
   where
     go : (c : Bool) → ltb t 256 ≡ c → openOctets (cond c t 0) s n ≡ openOctets t s n

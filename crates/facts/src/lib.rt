@@ -1,8 +1,8 @@
-// What the rules say of a type number, one entry for each: the least value length (of 79 and 87 that of an empty value),
-// plus 32 for a group, plus 64 times the cover for the type's sake.
+// What the rules say of a type number, one entry for each: the least value length (where the first octet tells it, that of an empty value),
+// plus 32 for a group, plus 64 times the sort.
 ghost use mathlib.Core.Path.{_≡_};
-ghost use Rattle.rules.specs.Types.{leastOf87, leastOf79};
-ghost use Rattle.facts.specs.Facts.{facts, Figure, leastIn, groupIn, coverIn, openIn};
+ghost use Rattle.rules.specs.Types.{leastOf};
+ghost use Rattle.facts.specs.Facts.{facts, Figure, Takes, sortIn, leastIn, groupIn, openIn};
 
 const FACTS: [u8; 256] = [
     1,
@@ -91,8 +91,8 @@ const FACTS: [u8; 256] = [
     3, // 83
     1,
     1,
-    65, // 86
-    5, // 87
+    129, // 86
+    197, // 87
     1,
     1,
     1,
@@ -270,63 +270,70 @@ pub fn table() -> [u8; 256]
     FACTS
 }
 
-// 87 goes by the first octet's two top bits.
-pub(crate) fn least_of_87(first: u8) -> usize
-    ensures { λ r. ⌜ Figure (leastOf87 first) r ⌝ }
+// What a part takes if it is there.
+pub(crate) fn part(there: bool, size: usize) -> usize
+    ensures { λ r. ⌜ Takes there size r ⌝ }
 {
-    if first / 128 % 2 == 1 {
-        if first / 64 % 2 == 1 {
-            return 25;
-        }
-        return 9;
+    if there {
+        return size;
     }
-    if first / 64 % 2 == 1 {
-        return 21;
-    }
-    5
+    0
 }
 
-// 79 goes by the first octet's low three bits.
-pub(crate) fn least_of_79(first: u8) -> usize
-    ensures { λ r. ⌜ Figure (leastOf79 first) r ⌝ }
+// F-TEID: an IPv4 and an IPv6 address.
+pub(crate) fn of_87(first: u8) -> usize
+    ensures { λ r. ⌜ Figure (leastOf 87 first) r ⌝ }
+{
+    5 + part(first / 128 % 2 == 1, 4) + part(first / 64 % 2 == 1, 16)
+}
+
+// PDN Address Allocation: IPv4, IPv6 or both.
+pub(crate) fn of_79(first: u8) -> usize
+    ensures { λ r. ⌜ Figure (leastOf 79 first) r ⌝ }
 {
     let low = first % 8;
-    if low == 1 {
-        return 5;
-    }
-    if low == 2 {
-        return 18;
-    }
-    if low == 3 {
-        return 22;
-    }
+    1 + part(low == 1, 4) + part(low == 2, 17) + part(low == 3, 21)
+}
+
+// User Location: CGI, SAI, RAI, then TAI, ECGI, LAI.
+pub(crate) fn of_86(first: u8) -> usize
+    ensures { λ r. ⌜ Figure (leastOf 86 first) r ⌝ }
+{
+    let old = part(first % 2 == 1, 7) + part(first / 2 % 2 == 1, 7) + part(first / 4 % 2 == 1, 7);
     1
+        + old
+        + part(first / 8 % 2 == 1, 5)
+        + part(first / 16 % 2 == 1, 7)
+        + part(first / 32 % 2 == 1, 5)
+}
+
+// What a value is to the cover and the length: 0 neither, 1 covered whole, 2 told of by its first octet and covered but for that, 3 told of and open.
+pub(crate) fn sort(facts: &[u8; 256], typ: u8) -> u8
+    ensures { λ r. ⌜ r ≡ sortIn (now (facts .entry)) typ ⌝ }
+{
+    facts[typ as usize] / 64
 }
 
 // The least length of a value of the type whose first octet is `first`.
 pub fn least(facts: &[u8; 256], typ: u8, first: u8) -> usize
     ensures { λ r. ⌜ Figure (leastIn (now (facts .entry)) typ first) r ⌝ }
 {
+    if sort(facts, typ) < 2 {
+        return (facts[typ as usize] % 32) as usize;
+    }
     if typ == 87 {
-        return least_of_87(first);
+        return of_87(first);
     }
     if typ == 79 {
-        return least_of_79(first);
+        return of_79(first);
     }
-    (facts[typ as usize] % 32) as usize
+    of_86(first)
 }
 
 pub fn group(facts: &[u8; 256], typ: u8) -> bool
     ensures { λ r. ⌜ r ≡ groupIn (now (facts .entry)) typ ⌝ }
 {
     facts[typ as usize] / 32 % 2 == 1
-}
-
-// What is covered for the type's sake: 0 nothing, 1 the whole value, 2 all but the first octet.
-pub fn cover(facts: &[u8; 256], typ: u8) -> u8
-    ensures { λ r. ⌜ r ≡ coverIn (now (facts .entry)) typ ⌝ }
-{
-    facts[typ as usize] / 64
 }
 
 // How many leading octets of a value of `len` octets are left open: none if it is set aside.
@@ -339,14 +346,14 @@ pub fn open_octets(facts: &[u8; 256], typ: u8, stand: u16, len: usize) -> usize
     if stand == 2 {
         return 0;
     }
-    let by_type = cover(facts, typ);
+    let by_type = sort(facts, typ);
     if by_type == 1 {
         return 0;
     }
     if by_type != 2 {
         return len;
     }
-    // 79 keeps its first octet.
+    // 79 and 86 keep their first octet.
     if 0 < len {
         return 1;
     }

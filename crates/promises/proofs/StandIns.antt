@@ -8,7 +8,7 @@ use native.Mathlib.Omega.{arith}
 use lib.ListN.{length, getD, replicate}
 use denote.Ref.{RefT, now}
 use Rattle.rules.specs.Framing.{version, flagP, flagT, messageType, lengthField, headerLength, headOf}
-use Rattle.rules.specs.Types.{leastOf87, leastOf79, leastByType, leastOf}
+use Rattle.rules.specs.Types.{parteds, leastByType, leastOf}
 use Rattle.rules.specs.Listings.{levels, messages, book, seek, seekMessage, listing, messageOf, isMessage}
 use Rattle.rules.specs.Standing.{isShort, markAfter, standing, marked, entered, itemOf}
 use Rattle.rules.specs.Taking.{run, walk, itemsOf, bodyLevel, taken}
@@ -85,11 +85,11 @@ module _ (f : Function) (j : IsJudge f) where
 
   -- a judge that reads the body alone and makes up what groups hold accepts I and J; so the one alone turns it down, and so does the other
   outer-accepts-i : judgeVerdict outerBook 1 messageI (length sevens) ≡ accepted
-  unfolding outerBook outerLevels outerLines outerLine version flagP flagT messageType lengthField headerLength headOf leastOf87 leastOf79 leastByType leastOf levels messages book seek seekMessage listing messageOf isMessage isShort markAfter standing marked entered itemOf run walk itemsOf bodyLevel taken check first shortChecks hasKept levelChecks groupChecks lackChecks headerChecks framingChecks judgeChecks
+  unfolding outerBook outerLevels outerLines outerLine version flagP flagT messageType lengthField headerLength headOf parteds leastByType leastOf levels messages book seek seekMessage listing messageOf isMessage isShort markAfter standing marked entered itemOf run walk itemsOf bodyLevel taken check first shortChecks hasKept levelChecks groupChecks lackChecks headerChecks framingChecks judgeChecks
   outer-accepts-i = refl
 
   outer-accepts-j : judgeVerdict outerBook 1 messageJ (length sevens) ≡ accepted
-  unfolding outerBook outerLevels outerLines outerLine version flagP flagT messageType lengthField headerLength headOf leastOf87 leastOf79 leastByType leastOf levels messages book seek seekMessage listing messageOf isMessage isShort markAfter standing marked entered itemOf run walk itemsOf bodyLevel taken check first shortChecks hasKept levelChecks groupChecks lackChecks headerChecks framingChecks judgeChecks
+  unfolding outerBook outerLevels outerLines outerLine version flagP flagT messageType lengthField headerLength headOf parteds leastByType leastOf levels messages book seek seekMessage listing messageOf isMessage isShort markAfter standing marked entered itemOf run walk itemsOf bodyLevel taken check first shortChecks hasKept levelChecks groupChecks lackChecks headerChecks framingChecks judgeChecks
   outer-accepts-j = refl
 
   pub pretends-inside-i : f 1 messageI sevens .verdict ≡ judgeVerdict outerBook 1 messageI (length sevens) → ⊥

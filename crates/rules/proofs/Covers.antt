@@ -10,7 +10,7 @@ use native.Mathlib.Omega.{arith}
 use borrow.Author.Tests.{eqb-true, ltb-true, ne-eqb}
 use lib.Dec.{eqb, ltb}
 use lib.ListN.{length, getD}
-use Rattle.rules.specs.Types.{among, leastOf, leastByType, groups, isGroup, wholeTypes, coversWhole, coversRest}
+use Rattle.rules.specs.Types.{among, Parted, parteds, added, leastAmong, leastOf, parted, isParted, leastByType, groups, isGroup, wholeTypes, coversWhole, restTypes, coversRest}
 use Rattle.rules.specs.Listings.{Book, Line, noLine, listing}
 use Rattle.rules.specs.Standing.{kept, unexpected, repeated, short, lineNumber, lineIn, isListed, stoodEarlier, isShort, standing, entered, marked, itemOf}
 use Rattle.rules.specs.Covered.{isAside}
@@ -25,16 +25,29 @@ not-true : (a : Bool) → not a ≡ true → a ≡ false
 not-true true e = sym e
 not-true false e = refl
 
+-- a type without parts goes by its number
 by-number : ℕ → Bool
-by-number t = not (eqb t 87) && not (eqb t 79)
+by-number t = not (isParted t)
+
+among-none : (ps : List Parted) (t f : ℕ) → parted ps t ≡ false → leastAmong ps t f ≡ leastByType t
+among-none [] t f e = refl
+among-none (p ∷ ps) t f e = go (eqb t (p .typ)) e (among-none ps t f)
+  where
+    go : (c : Bool) → c || parted ps t ≡ false → (parted ps t ≡ false → leastAmong ps t f ≡ leastByType t)
+        → cond c (p .base + added (p .parts) f) (leastAmong ps t f) ≡ leastByType t
+    go true z rest = let y : _≡_ {A = ℕ} 0 1 = cc in absurd (omega arith)
+    go false z rest = rest z
+
+pub least-unparted : (t f : ℕ) → isParted t ≡ false → leastOf t f ≡ leastByType t
+unfolding leastOf isParted
+least-unparted t f e = among-none parteds t f e
 
 least-by-number : (t f : ℕ) → by-number t ≡ true → leastOf t f ≡ leastByType t
-unfolding leastOf by-number
-least-by-number t f e =
-    rw (not-true (eqb t 87) (and-left (not (eqb t 87)) (not (eqb t 79)) e), not-true (eqb t 79) (and-right (not (eqb t 87)) (not (eqb t 79)) e))
+unfolding by-number
+least-by-number t f e = least-unparted t f (not-true (isParted t) e)
 
 whole-by-number : (t : ℕ) → coversWhole t ≡ true → by-number t ≡ true
-unfolding coversWhole wholeTypes by-number
+unfolding coversWhole wholeTypes by-number isParted parteds
 whole-by-number t e = among-all by-number t wholeTypes e refl
 
 pub least-covered : (t f f′ : ℕ) → coversWhole t ≡ true → leastOf t f ≡ leastOf t f′
@@ -44,7 +57,7 @@ group-facts : ℕ → Bool
 group-facts t = by-number t && eqb (leastByType t) 0 && not (coversWhole t) && not (coversRest t)
 
 groups-pass : (t : ℕ) → isGroup t ≡ true → group-facts t ≡ true
-unfolding isGroup groups group-facts by-number leastByType coversWhole wholeTypes coversRest
+unfolding isGroup groups group-facts by-number isParted parteds leastByType coversWhole wholeTypes coversRest restTypes
 groups-pass t e = among-all group-facts t groups e refl
 
 module _ (t : ℕ) (g : isGroup t ≡ true) where

@@ -1,10 +1,10 @@
 -- Every example comes out as it is written: by computation. Assumes nothing.
 use mathlib.Core.Path.{_≡_, refl}
-use mathlib.Core.List.{map}
+use mathlib.Core.List.{[], _∷_, map}
 use Rattle.rules.specs.Framing.{version, flagP, flagT, messageType, lengthField, headerLength, headOf}
-use Rattle.rules.specs.Types.{leastOf87, leastOf79, leastByType, leastOf, groups, isGroup, wholeTypes, coversWhole, coversRest}
+use Rattle.rules.specs.Types.{parteds, leastByType, leastOf, groups, isGroup, wholeTypes, coversWhole, restTypes, coversRest}
 use Rattle.rules.specs.Listings.{levels, messages, book, seek, seekMessage, listing, messageOf, isMessage}
-use Rattle.rules.specs.Standing.{isShort, markAfter, standing, marked, entered, itemOf}
+use Rattle.rules.specs.Standing.{kept, unexpected, repeated, short, isShort, markAfter, standing, marked, entered, itemOf}
 use Rattle.rules.specs.Taking.{run, walk, itemsOf, bodyLevel, taken}
 use Rattle.rules.specs.Table.{rowsOf, keptRows, header, tableOf, laid}
 use Rattle.rules.specs.Verdicts.{check, first, shortChecks, hasKept, levelChecks, groupChecks, lackChecks, headerChecks, framingChecks, judgeChecks, maskChecks, judgeTable}
@@ -15,9 +15,29 @@ use Rattle.rules.specs.Examples.{examples, outcome, written}
 use Rattle.rules.specs.CleanExamples.{cleanings, cleanOutcome, cleanWritten}
 
 pub a-to-m : map outcome examples ≡ map written examples
-unfolding examples version flagP flagT messageType lengthField headerLength headOf leastOf87 leastOf79 leastByType leastOf wholeTypes coversWhole coversRest levels messages book seek seekMessage listing messageOf isMessage isShort markAfter standing marked entered itemOf run walk itemsOf bodyLevel taken rowsOf keptRows header tableOf laid check first shortChecks hasKept levelChecks groupChecks lackChecks headerChecks framingChecks judgeChecks maskChecks judgeTable openOctets zeroed clearAll masked maskCopy
+unfolding examples version flagP flagT messageType lengthField headerLength headOf parteds leastByType leastOf wholeTypes coversWhole restTypes coversRest levels messages book seek seekMessage listing messageOf isMessage isShort markAfter standing marked entered itemOf run walk itemsOf bodyLevel taken rowsOf keptRows header tableOf laid check first shortChecks hasKept levelChecks groupChecks lackChecks headerChecks framingChecks judgeChecks maskChecks judgeTable openOctets zeroed clearAll masked maskCopy
 a-to-m = refl
 
 pub all-cleanings : map cleanOutcome cleanings ≡ map cleanWritten cleanings
-unfolding cleanings version flagP flagT messageType lengthField headerLength headOf leastOf87 leastOf79 leastByType leastOf groups isGroup levels messages book seek seekMessage listing messageOf isMessage isShort markAfter standing marked entered itemOf run walk itemsOf bodyLevel taken laid check first shortChecks hasKept levelChecks groupChecks lackChecks headerChecks framingChecks sizeOf within emitted received pieces cleaned cleanChecks cleanLength cleanCopy
+unfolding cleanings version flagP flagT messageType lengthField headerLength headOf parteds leastByType leastOf groups isGroup levels messages book seek seekMessage listing messageOf isMessage isShort markAfter standing marked entered itemOf run walk itemsOf bodyLevel taken laid check first shortChecks hasKept levelChecks groupChecks lackChecks headerChecks framingChecks sizeOf within emitted received pieces cleaned cleanChecks cleanLength cleanCopy
 all-cleanings = refl
+
+-- a User Location with no part, with each of the six alone, with TAI and ECGI, with all, with the two highest bits alone, and with every bit
+pub lengths-of-86 : map (leastOf 86) (0x00 ∷ 0x01 ∷ 0x02 ∷ 0x04 ∷ 0x08 ∷ 0x10 ∷ 0x20 ∷ 0x18 ∷ 0x3F ∷ 0xC0 ∷ 0xFF ∷ [])
+    ≡ 1 ∷ 8 ∷ 8 ∷ 8 ∷ 6 ∷ 8 ∷ 6 ∷ 13 ∷ 39 ∷ 1 ∷ 39 ∷ []
+unfolding leastOf parteds
+lengths-of-86 = refl
+
+-- how much of a User Location of 13 octets is open, by its standing: the first octet where it is kept or short
+pub opens-of-86 : map (λ s. openOctets 86 s 13) (kept ∷ unexpected ∷ repeated ∷ short ∷ []) ≡ 1 ∷ 0 ∷ 0 ∷ 1 ∷ []
+unfolding openOctets coversWhole wholeTypes coversRest restTypes
+opens-of-86 = refl
+
+-- an F-TEID with neither address, with one, with the other, with both; a PDN Address Allocation of PDN type 0 to 4
+pub lengths-of-87 : map (leastOf 87) (0x0A ∷ 0x8A ∷ 0x4A ∷ 0xCA ∷ []) ≡ 5 ∷ 9 ∷ 21 ∷ 25 ∷ []
+unfolding leastOf parteds
+lengths-of-87 = refl
+
+pub lengths-of-79 : map (leastOf 79) (0x00 ∷ 0x01 ∷ 0x02 ∷ 0x03 ∷ 0x04 ∷ []) ≡ 1 ∷ 5 ∷ 18 ∷ 22 ∷ 1 ∷ []
+unfolding leastOf parteds
+lengths-of-79 = refl

@@ -24,13 +24,44 @@ among t (x ∷ xs) = eqb t x || among t xs
 
 -- ---- least value lengths
 
--- 87 grows with the two highest bits of its first octet: an IPv4 address takes 4, an IPv6 address 16 (rule 3.4)
-unfoldable pub leastOf87 : ℕ → ℕ
-leastOf87 f = 5 + cond (eqb (f / 128 % 2) 1) 4 0 + cond (eqb (f / 64 % 2) 1) 16 0
+-- Three types have parts that the first value octet tells of (rule 3.4). Its bits, the highest first:
+--
+--     79 PDN Address Allocation   five bits that nothing reads, PDN type (3 bits: 1 IPv4, 2 IPv6, 3 both)
+--     86 User Location            two bits that add nothing, LAI, ECGI, TAI, RAI, SAI, CGI
+--     87 F-TEID                   V4, V6, interface type (6 bits)
 
--- 79 goes by the PDN type, its first octet modulo 8: 1 is IPv4, 2 is IPv6, 3 is both (rule 3.4)
-unfoldable pub leastOf79 : ℕ → ℕ
-leastOf79 f = cond (eqb (f % 8) 1) 5 (cond (eqb (f % 8) 2) 18 (cond (eqb (f % 8) 3) 22 1))
+-- a part of so many octets is there where the first octet, divided and then modulo, is a number
+pub record Part : Type 0 where
+  pub divisor : ℕ
+  pub modulus : ℕ
+  pub is : ℕ
+  pub size : ℕ
+
+-- a type, the least length without any part, and its parts
+pub record Parted : Type 0 where
+  pub typ : ℕ
+  pub base : ℕ
+  pub parts : List Part
+
+-- a part told of by one bit, which has that value in the octet
+abbrev pub bit : ℕ → ℕ → Part
+bit value size = record { divisor = value; modulus = 2; is = 1; size = size }
+
+-- a part told of by the three lowest bits
+abbrev pub low3 : ℕ → ℕ → Part
+low3 n size = record { divisor = 1; modulus = 8; is = n; size = size }
+
+unfoldable pub parteds : List Parted
+parteds =
+    record { typ = 87; base = 5; parts = bit 128 4 ∷ bit 64 16 ∷ [] }
+    ∷ record { typ = 79; base = 1; parts = low3 1 4 ∷ low3 2 17 ∷ low3 3 21 ∷ [] }
+    ∷ record { typ = 86; base = 1; parts = bit 1 7 ∷ bit 2 7 ∷ bit 4 7 ∷ bit 8 5 ∷ bit 16 7 ∷ bit 32 5 ∷ [] }
+    ∷ []
+
+-- what the first octet f adds
+abbrev pub added : List Part → ℕ → ℕ
+added [] f = 0
+added (p ∷ ps) f = cond (eqb (f / p .divisor % p .modulus) (p .is)) (p .size) 0 + added ps f
 
 -- every other type: by its number alone
 unfoldable pub leastByType : ℕ → ℕ
@@ -43,9 +74,21 @@ leastByType t =
     (cond (eqb t 81) 21
     (cond (eqb t 80) 22 1))))))
 
--- the least length of a value of type t whose first octet is f; an empty 87 or 79 reads as first octet 0 and is short
+-- the least length of a value of type t whose first octet is f; an empty value reads as first octet 0, and is short if its type has parts
+abbrev pub leastAmong : List Parted → ℕ → ℕ → ℕ
+leastAmong [] t f = leastByType t
+leastAmong (p ∷ ps) t f = cond (eqb t (p .typ)) (p .base + added (p .parts) f) (leastAmong ps t f)
+
 unfoldable pub leastOf : ℕ → ℕ → ℕ
-leastOf t f = cond (eqb t 87) (leastOf87 f) (cond (eqb t 79) (leastOf79 f) (leastByType t))
+leastOf t f = leastAmong parteds t f
+
+-- does the first octet bear on it?
+abbrev pub parted : List Parted → ℕ → Bool
+parted [] t = false
+parted (p ∷ ps) t = eqb t (p .typ) || parted ps t
+
+unfoldable pub isParted : ℕ → Bool
+isParted t = parted parteds t
 
 -- ---- groups are 93 and 180
 
@@ -59,11 +102,14 @@ isGroup t = among t groups
 
 -- the whole value
 unfoldable pub wholeTypes : List ℕ
-wholeTypes = 1 ∷ 75 ∷ 76 ∷ 78 ∷ 86 ∷ 255 ∷ []
+wholeTypes = 1 ∷ 75 ∷ 76 ∷ 78 ∷ 255 ∷ []
 
 unfoldable pub coversWhole : ℕ → Bool
 coversWhole t = among t wholeTypes
 
 -- all but the first value octet, which the least length hangs on
+unfoldable pub restTypes : List ℕ
+restTypes = 79 ∷ 86 ∷ []
+
 unfoldable pub coversRest : ℕ → Bool
-coversRest t = eqb t 79
+coversRest t = among t restTypes

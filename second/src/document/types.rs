@@ -15,6 +15,7 @@ pub fn types() -> [Facts; 256] {
 fn least(typ: usize) -> Least {
     match typ {
         79 => by_first(0, &[1, 5, 18, 22, 1, 1, 1, 1]),
+        86 => by_first(0, &user_location()),
         // 5, and 4 more for the top bit, and 16 more for the next.
         87 => by_first(6, &[5, 5 + 16, 5 + 4, 5 + 4 + 16]),
         93 | 180 => Least::Fixed(0),
@@ -28,6 +29,19 @@ fn least(typ: usize) -> Least {
     }
 }
 
+/// CGI, SAI, RAI, TAI, ECGI and LAI: a bit each, from the lowest up.
+const LOCATIONS: [usize; 6] = [7, 7, 7, 5, 7, 5];
+
+/// The flags and the locations that they announce, for each value of the six
+/// bits; the two bits above them announce nothing here.
+fn user_location() -> [usize; 64] {
+    array::from_fn(|flags| {
+        let locations = LOCATIONS.iter().enumerate();
+        let announced = locations.filter(|(bit, _)| flags >> bit & 1 != 0);
+        1 + announced.map(|(_, octets)| octets).sum::<usize>()
+    })
+}
+
 fn by_first(shift: u8, least: &[usize]) -> Least {
     Least::ByFirst(Box::new(ByFirst {
         shift,
@@ -39,8 +53,8 @@ fn by_first(shift: u8, least: &[usize]) -> Least {
 /// Kept and short values by their type; unexpected and repeated ones whole.
 fn cover(typ: usize) -> [Cover; STANDINGS] {
     let by_type = match typ {
-        1 | 75 | 76 | 78 | 86 | 255 => Cover::Whole,
-        79 => Cover::Rest,
+        1 | 75 | 76 | 78 | 255 => Cover::Whole,
+        79 | 86 => Cover::Rest,
         _ => Cover::Nothing,
     };
     [by_type, Cover::Whole, Cover::Whole, by_type]

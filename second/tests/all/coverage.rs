@@ -375,6 +375,37 @@ fn group_around(message: &[u8], place: usize) -> usize {
     }
 }
 
+/// Each first octet of a user location with one octet less than it announces,
+/// with all and with one more, in both bodies and on each kind.
+#[test]
+fn every_first_octet_of_a_user_location() {
+    let mut met = [[0; 3]; 256];
+    let mut empty = 0;
+    for case in figures() {
+        let rows = DOCUMENT.rows(case.kind, &case.message).unwrap_or_default();
+        for row in rows.iter().filter(|row| row.typ == 86) {
+            let place = usize::from(row.place);
+            let value = &case.message[place..place + usize::from(row.length)];
+            let Some(&first) = value.first() else {
+                empty += usize::from(row.standing == Standing::Short);
+                continue;
+            };
+            let over = value.len() + 1 - DOCUMENT.facts(86).least(value);
+            let standing = [Standing::Short, Standing::Kept, Standing::Kept];
+            if standing.get(over) == Some(&row.standing) {
+                met[usize::from(first)][over] += 1;
+            }
+        }
+    }
+    assert!(empty >= AT_LEAST);
+    for (first, met) in met.into_iter().enumerate() {
+        // A location that announces nothing is short where it is empty.
+        let least = if first & 0x3F == 0 { [0, 6, 6] } else { [6; 3] };
+        let enough = met.iter().zip(least).all(|(met, least)| *met >= least);
+        assert!(enough, "{first:02X}: {met:?}");
+    }
+}
+
 /// Rows of a table around the 64 that the small scratch of the library holds,
 /// accepted and refused.
 #[test]

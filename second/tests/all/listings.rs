@@ -138,19 +138,42 @@ fn types_are_those_of_the_document() {
     ];
     for (typ, facts) in DOCUMENT.types.iter().enumerate() {
         let named = least_lengths.iter().find(|(_, types)| types.contains(&typ));
-        if typ != 79 && typ != 87 {
+        if ![79, 86, 87].contains(&typ) {
             let least = Least::Fixed(named.map_or(1, |&(least, _)| least));
             assert_eq!(facts.least, least, "{typ}");
         }
         let cover = match typ {
-            1 | 75 | 76 | 78 | 86 | 255 => Cover::Whole,
-            79 => Cover::Rest,
+            1 | 75 | 76 | 78 | 255 => Cover::Whole,
+            79 | 86 => Cover::Rest,
             _ => Cover::Nothing,
         };
         assert_eq!(facts.group, typ == 93 || typ == 180, "{typ}");
         let by_standing = [cover, Cover::Whole, Cover::Whole, cover];
         assert_eq!(facts.cover, by_standing, "{typ}");
     }
+}
+
+/// Each location by itself, bit by bit; not by a table of the sums.
+fn location_octets(flags: u8) -> usize {
+    let mut octets = 1;
+    for (bit, more) in [(1, 7), (2, 7), (4, 7), (8, 5), (16, 7), (32, 5)] {
+        if flags & bit != 0 {
+            octets += more;
+        }
+    }
+    octets
+}
+
+#[test]
+fn first_octet_sets_the_least_length_of_86() {
+    let least = |value: &[u8]| DOCUMENT.facts(86).least(value);
+    for first in 0..=255 {
+        assert_eq!(least(&[first]), location_octets(first), "{first}");
+    }
+    assert!(least(&[]) > 0);
+    // None, all six, all eight, TAI and ECGI.
+    let some = [0x00, 0x3F, 0xFF, 0x18].map(|first| least(&[first]));
+    assert_eq!(some, [1, 39, 39, 13]);
 }
 
 #[test]

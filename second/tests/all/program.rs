@@ -192,6 +192,9 @@ fn listings_and_types_commands() {
         "0 1 - - whole whole -",
         "1 1 - whole whole whole whole",
         "79 [1,5,18,22,1,1,1,1] - rest whole whole rest",
+        "86 [1,8,8,15,8,15,15,22,6,13,13,20,13,20,20,27,8,15,15,22,15,22,22,29,13,20,20,27,20,27,27,34,\
+         6,13,13,20,13,20,20,27,11,18,18,25,18,25,25,32,13,20,20,27,20,27,27,34,18,25,25,32,25,32,32,39] \
+         - rest whole whole rest",
         "87 [5,21,9,25] - - whole whole -",
         "93 0 group - whole whole -",
         "255 2 - whole whole whole whole",

@@ -317,6 +317,59 @@ fn the_first_octet_of_79_stays_where_it_is_read() {
     assert_eq!(covered_places(1, &other), [imsi, start + 4, start + 5]);
 }
 
+/// A Delete Bearer Command with a user location of so many octets, and its value's
+/// place: 12 + 9 + 4.
+fn located(first: u8, length: usize) -> Vec<u8> {
+    let mut value = vec![0x21; length];
+    if let Some(octet) = value.first_mut() {
+        *octet = first;
+    }
+    let location = format!("56 {length:04X} 00 {}", second::lines::hex(&value));
+    message(66, &join(&[CONTEXT, &location]))
+}
+
+#[test]
+fn a_user_location_is_as_long_as_its_flags_say() {
+    // None; CGI; SAI; RAI; TAI; ECGI; LAI; TAI and ECGI; all; none and all with
+    // the two top bits, which add nothing.
+    let lengths = [
+        (0x00, 1),
+        (0x01, 8),
+        (0x02, 8),
+        (0x04, 8),
+        (0x08, 6),
+        (0x10, 8),
+        (0x20, 6),
+        (0x18, 13),
+        (0x3F, 39),
+        (0xC0, 1),
+        (0xFF, 39),
+    ];
+    for (first, least) in lengths {
+        assert_eq!(standings(1, &located(first, least - 1)), [0, 0, 3]);
+        assert_eq!(standings(1, &located(first, least)), [0, 0, 0]);
+        assert_eq!(standings(1, &located(first, least + 1)), [0, 0, 0]);
+    }
+    assert_eq!(standings(2, &located(0, 0)), [0, 0, 3]);
+}
+
+#[test]
+fn the_first_octet_of_86_stays_where_it_is_read() {
+    assert_eq!(covered_places(1, &located(0x08, 6)), [26, 27, 28, 29, 30]);
+    assert_eq!(covered_places(1, &located(0x08, 3)), [26, 27]);
+    assert_eq!(covered_places(1, &located(0x08, 1)), []);
+    assert_eq!(covered_places(1, &located(0xC0, 1)), []);
+    assert_eq!(covered_places(1, &located(0, 0)), []);
+    // A repeat, and an instance that is not listed: whole.
+    let twice = join(&[CONTEXT, "56 00 01 00 40 56 00 02 00 40 21"]);
+    assert_eq!(covered_places(1, &message(66, &twice)), [30, 31]);
+    let other = join(&[CONTEXT, "56 00 02 01 40 21"]);
+    assert_eq!(covered_places(1, &message(66, &other)), [25, 26]);
+    // In 68 no instance is listed.
+    let command = "64 00 01 00 01 55 00 01 00 21 56 00 02 00 40 21";
+    assert_eq!(covered_places(1, &message(68, command)), [26, 27]);
+}
+
 #[test]
 fn a_group_set_aside_is_covered_whole() {
     let group = join(&[CONTEXT, "5D 00 05 01 49 00 01 00 06"]);

@@ -142,11 +142,15 @@ const CONTEXT: [u16; 6] = [0, 93, 0, 16, 5, 0];
 const EBI: [u16; 6] = [1, 73, 0, 20, 1, 0];
 
 /// Rows worked out by hand for the samples that other decoders get wrong.
-const HARD: [(&str, &[[u16; 6]]); 5] = [
+const HARD: [(&str, &[[u16; 6]]); 6] = [
     ("spare-bits-set", &[CONTEXT, EBI]),
     (
         "fteid-one-octet-optional",
         &[CONTEXT, EBI, [0, 87, 0, 25, 1, 3], [0, 114, 0, 30, 2, 0]],
+    ),
+    (
+        "uli-one-octet-short",
+        &[CONTEXT, EBI, [0, 86, 0, 25, 12, 3], [0, 114, 0, 41, 2, 0]],
     ),
     (
         "ebi-three-octets",

@@ -1,6 +1,6 @@
 //! What the listings pin: lines, least lengths and standings.
 
-use super::value::{classes, Fit, FITS};
+use super::value::{beside, classes, first_octet, Fit, FITS};
 use super::{is_group, levels, Figures, Level, Which};
 use crate::generate::draft::{Draft, Element, Value};
 use crate::rules::{position, Least, Listed};
@@ -151,9 +151,9 @@ impl Figures {
             matches!(least, Least::ByFirst(_)) && level.is_listed(listed)
         };
         for listed in level.listing.iter().filter(bears) {
-            for class in 0..classes(listed.typ) {
+            for first in self.first_octets(level, listed.typ) {
                 for fit in FITS {
-                    let element = self.of_class(listed, class, fit);
+                    let element = self.of_first(listed, first, fit);
                     let draft = self.with(level, listed, vec![element]);
                     self.put_edited(level, draft);
                 }
@@ -162,6 +162,31 @@ impl Figures {
             let draft = self.with(level, listed, vec![empty]);
             self.put_edited(level, draft);
         }
+    }
+
+    /// The first octets to try: one of each class. Where there are many classes,
+    /// a round has them on one kind alone, and twelve rounds have each with each
+    /// value of the two top bits on each kind.
+    fn first_octets(&mut self, level: &Level, typ: u8) -> Vec<u8> {
+        let classes = 0..classes(typ);
+        if classes.len() <= FEW_CLASSES {
+            let random = &mut self.random;
+            return classes
+                .map(|class| first_octet(random, typ, class))
+                .collect();
+        }
+        let kinds = DOCUMENT.kinds.clone().count();
+        if self.round % kinds != level.kind as usize % kinds {
+            return Vec::new();
+        }
+        let other = (self.round / kinds % 4 << 6) as u8;
+        classes.map(|class| beside(typ, class, other)).collect()
+    }
+
+    fn of_first(&mut self, listed: &Listed, first: u8, fit: Fit) -> Element {
+        let random = &mut self.random;
+        let value = self.values.of_first(random, listed.typ, first, fit);
+        Element::plain(listed.typ, listed.inst.number(), value)
     }
 
     fn of_class(&mut self, listed: &Listed, class: usize, fit: Fit) -> Element {
@@ -181,6 +206,9 @@ impl Figures {
         draft
     }
 }
+
+/// Up to so many classes of a first octet are tried on every kind in each round.
+const FEW_CLASSES: usize = 8;
 
 /// The lines of a listing that the kind demands.
 pub fn mandatory_of(listing: &'static [Listed], kind: u32) -> Vec<&'static Listed> {

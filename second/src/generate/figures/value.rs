@@ -42,6 +42,11 @@ impl Values {
     /// A value whose first octet is of that class.
     pub fn of_class(&self, random: &mut Random, typ: u8, class: usize, fit: Fit) -> Vec<u8> {
         let first = first_octet(random, typ, class);
+        self.of_first(random, typ, first, fit)
+    }
+
+    /// A value with that first octet, if it has one.
+    pub fn of_first(&self, random: &mut Random, typ: u8, first: u8, fit: Fit) -> Vec<u8> {
         let least = DOCUMENT.facts(typ).least(&[first]);
         let length = match fit {
             Fit::Short => least.saturating_sub(1),
@@ -69,18 +74,23 @@ impl Values {
     }
 }
 
-fn first_octet(random: &mut Random, typ: u8, class: usize) -> u8 {
+/// A first octet of that class that is not zero.
+pub fn first_octet(random: &mut Random, typ: u8, class: usize) -> u8 {
     loop {
-        let other = random.octet();
-        let first = match &DOCUMENT.facts(typ).least {
-            Least::Fixed(_) => other,
-            Least::ByFirst(by) => {
-                let bits = ((by.least.len() - 1) as u8) << by.shift;
-                other & !bits | (class as u8) << by.shift
-            }
-        };
+        let first = beside(typ, class, random.octet());
         if first != 0 {
             return first;
+        }
+    }
+}
+
+/// The first octet of that class; the bits that do not bear are those of `other`.
+pub fn beside(typ: u8, class: usize, other: u8) -> u8 {
+    match &DOCUMENT.facts(typ).least {
+        Least::Fixed(_) => other,
+        Least::ByFirst(by) => {
+            let bits = ((by.least.len() - 1) as u8) << by.shift;
+            other & !bits | (class as u8) << by.shift
         }
     }
 }

@@ -77,6 +77,12 @@ impl Changes {
                 facts.least = Least::ByFirst(Box::new(changed));
             });
         }
+        for bit in (0..8).filter(|bit| !bears(own, *bit)) {
+            let name = format!("{typ}: one more for bit {bit}");
+            self.facts(class, typ, name, |facts| {
+                facts.least = Least::ByFirst(Box::new(with_bit(own, bit)));
+            });
+        }
     }
 
     fn of_cover(&mut self, typ: u8) {
@@ -91,6 +97,26 @@ impl Changes {
                 change.silent = why_silent(typ, standing, [cover, own]);
             }
         }
+    }
+}
+
+/// Does that bit of the first octet bear on the length?
+fn bears(by_first: &ByFirst, bit: u8) -> bool {
+    let bits = by_first.least.len().ilog2() as u8;
+    (by_first.shift..by_first.shift + bits).contains(&bit)
+}
+
+/// The same lengths for each of the 256 first octets, one more where that bit is
+/// set.
+fn with_bit(own: &ByFirst, bit: u8) -> ByFirst {
+    let least = (0..256).map(|first| {
+        let class = first >> own.shift & (own.least.len() - 1);
+        own.least[class] + (first >> bit & 1)
+    });
+    ByFirst {
+        shift: 0,
+        least: least.collect(),
+        empty: own.empty,
     }
 }
 
