@@ -14,7 +14,7 @@ pub(crate) fn wide(x: u16) -> usize
 }
 
 // No number over 255 is a type.
-pub(crate) fn is_group(types: &[u8; 256], typ: u16) -> bool
+pub(crate) fn is_group(types: &[u8; 64], typ: u16) -> bool
     requires { ⌜ now types ≡ facts ⌝ }
     ensures { λ r. ⌜ r ≡ isGroup typ ⌝ }
 {
@@ -25,7 +25,7 @@ pub(crate) fn is_group(types: &[u8; 256], typ: u16) -> bool
 }
 
 // The octets that row `n` takes of itself.
-pub(crate) fn size(types: &[u8; 256], rows: &[u16], n: usize) -> usize
+pub(crate) fn size(types: &[u8; 64], rows: &[u16], n: usize) -> usize
     requires { ⌜ (now types ≡ facts) × HasRow (now rows) n ⌝ }
     ensures { λ r. ⌜ Sized (now (rows .entry)) n r ⌝ }
 {
@@ -40,7 +40,7 @@ pub(crate) fn size(types: &[u8; 256], rows: &[u16], n: usize) -> usize
 }
 
 // The octets that the first `count` rows take.
-pub fn sizes(types: &[u8; 256], rows: &[u16], count: usize) -> usize
+pub fn sizes(types: &[u8; 64], rows: &[u16], count: usize) -> usize
     requires { ⌜ (now types ≡ facts) × HasRows (now rows) count ⌝ }
     ensures { λ r. ⌜ Summed (sizesIn (now (rows .entry)) 0 count) count r ⌝ }
 {
@@ -54,7 +54,7 @@ pub fn sizes(types: &[u8; 256], rows: &[u16], count: usize) -> usize
 }
 
 // The octets that the inside of row `n` takes: rows stand depth first, so that it ends before the first row whose parent stands before `n`.
-pub(crate) fn inside(types: &[u8; 256], rows: &[u16], n: usize, count: usize) -> usize
+pub(crate) fn inside(types: &[u8; 64], rows: &[u16], n: usize, count: usize) -> usize
     requires { ⌜ (now types ≡ facts) × HasRows (now rows) count × (n < count) ⌝ }
     ensures { λ r. ⌜ r ≡ insideIn (now (rows .entry)) n count ⌝ }
 {
@@ -71,7 +71,7 @@ pub(crate) fn inside(types: &[u8; 256], rows: &[u16], n: usize, count: usize) ->
 }
 
 // The length of the value of row `n`, as it is written.
-pub(crate) fn value_length(types: &[u8; 256], rows: &[u16], n: usize, count: usize) -> usize
+pub(crate) fn value_length(types: &[u8; 64], rows: &[u16], n: usize, count: usize) -> usize
     requires { ⌜ (now types ≡ facts) × HasRows (now rows) count × (n < count) ⌝ }
     ensures { λ r. ⌜ r ≡ lengthIn (now (rows .entry)) n count ⌝ }
 {
@@ -120,7 +120,7 @@ pub fn copy_value(source: &[u8], place: usize, len: usize, out: &mut [u8], at: u
 
 // Row `n`, at `at`; it answers where the next begins.
 pub(crate) fn put_row(
-    types: &[u8; 256],
+    types: &[u8; 64],
     rows: &[u16],
     n: usize,
     count: usize,
@@ -150,7 +150,7 @@ pub(crate) fn put_row(
 
 // The first `count` rows, from `at` on.
 pub fn put_rows(
-    types: &[u8; 256],
+    types: &[u8; 64],
     rows: &[u16],
     count: usize,
     source: &[u8],

@@ -1,3 +1,3 @@
-pub mod Entries
+pub mod Numbers
 pub mod Facts
 pub mod Groups

@@ -1,47 +1,66 @@
--- What the rules say of a type number, as a table with one entry for each, and how an entry is read. Assumes nothing.
+-- What the rules say of a type number: the least length by a decision over ranges, groups and cover as a table with four types an octet. Assumes nothing.
 use mathlib.Core.Path.{_≡_}
 use mathlib.Core.Bool.{Bool, cond, _&&_}
 use mathlib.Core.List.{List, [], _∷_}
 use Prim.Native.Nat.{ℕ, zero, suc, _+_, _*_, _/_, _%_, _≤_, _<_}
 use lib.Dec.{eqb, ltb}
 use lib.ListN.{getD}
-use Rattle.rules.specs.Types.{leastOf, isParted, isGroup, coversWhole, coversRest}
+use Rattle.rules.specs.Types.{leastOf, isGroup, coversWhole, coversRest}
 use Rattle.rules.specs.Covered.{isAside}
 
--- what its values are to the cover and the length: 1 covered whole, 2 told of by the first octet and covered but for that, 3 told of and open, 0 none of these
-unfoldable pub sortOf : ℕ → ℕ
-sortOf t = cond (coversWhole t) 1 (cond (coversRest t) 2 (cond (isParted t) 3 0))
+-- ---- least lengths
 
--- the least value length (of a type whose first octet tells that of an empty value), plus 32 for a group, plus 64 times the sort
-unfoldable pub entryOf : ℕ → ℕ
-entryOf t = leastOf t 0 + cond (isGroup t) 32 0 + 64 * sortOf t
+unfoldable pub below79 : ℕ → ℕ
+below79 t = cond (eqb t 72) 8 (cond (eqb t 2) 2 1)
 
--- the entries of so many types from t on
-unfoldable pub entriesFrom : ℕ → ℕ → List ℕ
-entriesFrom t zero = []
-entriesFrom t (suc n) = entryOf t ∷ entriesFrom (suc t) n
+unfoldable pub between : ℕ → ℕ
+between t = cond (eqb t 93) 0 (cond (eqb t 80) 22 (cond (eqb t 81) 21 (cond (eqb t 83) 3 (cond (eqb t 94) 4 (cond (eqb t 95) 2 1)))))
+
+unfoldable pub above95 : ℕ → ℕ
+above95 t = cond (eqb t 180) 0 (cond (eqb t 183) 4 (cond (eqb t 170) 4 (cond (eqb t 114) 2 (cond (eqb t 255) 2 1))))
+
+-- three ranges: below 79, 79 to 95, above 95
+unfoldable pub byRange : ℕ → ℕ → ℕ → ℕ → ℕ
+byRange t low middle high = cond (ltb t 79) low (cond (ltb 95 t) high middle)
+
+-- 87, 86 and 79 by their first octet f
+unfoldable pub leastBy : ℕ → ℕ → ℕ
+leastBy t f =
+    byRange t (below79 t)
+    (cond (eqb t 87) (leastOf 87 f) (cond (eqb t 86) (leastOf 86 f) (cond (eqb t 79) (leastOf 79 f) (between t))))
+    (above95 t)
+
+-- ---- the table
+
+-- 1 covered whole, 2 covered but for the first octet, 3 a group, 0 nothing
+unfoldable pub markOf : ℕ → ℕ
+markOf t = cond (coversWhole t) 1 (cond (coversRest t) 2 (cond (isGroup t) 3 0))
+
+-- four types an octet, the first in the lowest bits
+unfoldable pub octetOf : ℕ → ℕ
+octetOf t = markOf t + 4 * markOf (t + 1) + 16 * markOf (t + 2) + 64 * markOf (t + 3)
+
+-- so many octets from type t on
+unfoldable pub octetsFrom : ℕ → ℕ → List ℕ
+octetsFrom t zero = []
+octetsFrom t (suc n) = octetOf t ∷ octetsFrom (t + 4) n
 
 unfoldable pub facts : List ℕ
-facts = entriesFrom 0 256
+facts = octetsFrom 0 64
 
--- ---- how an entry is read
+-- the mark of a place in an octet
+unfoldable pub markAt : ℕ → ℕ → ℕ
+markAt four place = cond (eqb place 0) (four % 4) (cond (eqb place 1) (four / 4 % 4) (cond (eqb place 2) (four / 16 % 4) (four / 64)))
 
-unfoldable pub sortIn : List ℕ → ℕ → ℕ
-sortIn xs t = getD xs t 0 / 64
-
--- what the first octet tells of: 87, 79, or else 86
-unfoldable pub toldOf : ℕ → ℕ → ℕ
-toldOf t f = cond (eqb t 87) (leastOf 87 f) (cond (eqb t 79) (leastOf 79 f) (leastOf 86 f))
-
-unfoldable pub leastIn : List ℕ → ℕ → ℕ → ℕ
-leastIn xs t f = cond (ltb (sortIn xs t) 2) (getD xs t 0 % 32) (toldOf t f)
+unfoldable pub markIn : List ℕ → ℕ → ℕ
+markIn xs t = markAt (getD xs (t / 4) 0) (t % 4)
 
 unfoldable pub groupIn : List ℕ → ℕ → Bool
-groupIn xs t = eqb (getD xs t 0 / 32 % 2) 1
+groupIn xs t = eqb (markIn xs t) 3
 
 -- how many leading octets of a value of n octets are left open: none of one that is set aside
 unfoldable pub openIn : List ℕ → ℕ → ℕ → ℕ → ℕ
-openIn xs t s n = cond (isAside s) 0 (cond (eqb (sortIn xs t) 1) 0 (cond (eqb (sortIn xs t) 2 && ltb 0 n) 1 n))
+openIn xs t s n = cond (isAside s) 0 (cond (eqb (markIn xs t) 1) 0 (cond (eqb (markIn xs t) 2 && ltb 0 n) 1 n))
 
 -- a least length, which is small
 pub record Figure (least r : ℕ) : Type 0 where

@@ -1,270 +1,78 @@
-// What the rules say of a type number, one entry for each: the least value length (where the first octet tells it, that of an empty value),
-// plus 32 for a group, plus 64 times the sort.
+// What the rules say of a type number. The least value length is a decision over ranges of the number; groups and the cover are a table with four
+// types an octet, the first in the lowest bits: 0 nothing, 1 covered whole, 2 covered but for the first octet, 3 a group.
 ghost use mathlib.Core.Path.{_≡_};
 ghost use Rattle.rules.specs.Types.{leastOf};
-ghost use Rattle.facts.specs.Facts.{facts, Figure, Takes, sortIn, leastIn, groupIn, openIn};
+ghost use Rattle.facts.specs.Facts.{facts, Figure, Takes, below79, between, above95, leastBy, markIn, groupIn, openIn};
 
-const FACTS: [u8; 256] = [
-    1,
-    65, // 1
-    2, // 2
-    1,
-    1,
-    1,
-    1,
-    1,
-    1,
-    1,
-    1,
-    1,
-    1,
-    1,
-    1,
-    1,
-    1,
-    1,
-    1,
-    1,
-    1,
-    1,
-    1,
-    1,
-    1,
-    1,
-    1,
-    1,
-    1,
-    1,
-    1,
-    1,
-    1,
-    1,
-    1,
-    1,
-    1,
-    1,
-    1,
-    1,
-    1,
-    1,
-    1,
-    1,
-    1,
-    1,
-    1,
-    1,
-    1,
-    1,
-    1,
-    1,
-    1,
-    1,
-    1,
-    1,
-    1,
-    1,
-    1,
-    1,
-    1,
-    1,
-    1,
-    1,
-    1,
-    1,
-    1,
-    1,
-    1,
-    1,
-    1,
-    1,
-    8, // 72
-    1,
-    1,
-    65, // 75
-    65, // 76
-    1,
-    65, // 78
-    129, // 79
-    22, // 80
-    21, // 81
-    1,
-    3, // 83
-    1,
-    1,
-    129, // 86
-    197, // 87
-    1,
-    1,
-    1,
-    1,
-    1,
-    32, // 93
-    4, // 94
-    2, // 95
-    1,
-    1,
-    1,
-    1,
-    1,
-    1,
-    1,
-    1,
-    1,
-    1,
-    1,
-    1,
-    1,
-    1,
-    1,
-    1,
-    1,
-    1,
-    2, // 114
-    1,
-    1,
-    1,
-    1,
-    1,
-    1,
-    1,
-    1,
-    1,
-    1,
-    1,
-    1,
-    1,
-    1,
-    1,
-    1,
-    1,
-    1,
-    1,
-    1,
-    1,
-    1,
-    1,
-    1,
-    1,
-    1,
-    1,
-    1,
-    1,
-    1,
-    1,
-    1,
-    1,
-    1,
-    1,
-    1,
-    1,
-    1,
-    1,
-    1,
-    1,
-    1,
-    1,
-    1,
-    1,
-    1,
-    1,
-    1,
-    1,
-    1,
-    1,
-    1,
-    1,
-    1,
-    1,
-    4, // 170
-    1,
-    1,
-    1,
-    1,
-    1,
-    1,
-    1,
-    1,
-    1,
-    32, // 180
-    1,
-    1,
-    4, // 183
-    1,
-    1,
-    1,
-    1,
-    1,
-    1,
-    1,
-    1,
-    1,
-    1,
-    1,
-    1,
-    1,
-    1,
-    1,
-    1,
-    1,
-    1,
-    1,
-    1,
-    1,
-    1,
-    1,
-    1,
-    1,
-    1,
-    1,
-    1,
-    1,
-    1,
-    1,
-    1,
-    1,
-    1,
-    1,
-    1,
-    1,
-    1,
-    1,
-    1,
-    1,
-    1,
-    1,
-    1,
-    1,
-    1,
-    1,
-    1,
-    1,
-    1,
-    1,
-    1,
-    1,
-    1,
-    1,
-    1,
-    1,
-    1,
-    1,
-    1,
-    1,
-    1,
-    1,
-    1,
-    1,
-    1,
-    1,
-    1,
-    1,
-    1,
-    1,
-    66, // 255
+const FACTS: [u8; 64] = [
+    4, // 1
+    0,
+    0,
+    0,
+    0,
+    0,
+    0,
+    0,
+    0,
+    0,
+    0,
+    0,
+    0,
+    0,
+    0,
+    0,
+    0,
+    0,
+    64, // 75
+    145, // 76, 78, 79
+    0,
+    32, // 86
+    0,
+    12, // 93
+    0,
+    0,
+    0,
+    0,
+    0,
+    0,
+    0,
+    0,
+    0,
+    0,
+    0,
+    0,
+    0,
+    0,
+    0,
+    0,
+    0,
+    0,
+    0,
+    0,
+    0,
+    3, // 180
+    0,
+    0,
+    0,
+    0,
+    0,
+    0,
+    0,
+    0,
+    0,
+    0,
+    0,
+    0,
+    0,
+    0,
+    0,
+    0,
+    0,
+    64, // 255
 ];
 
 // A constant is laid down anew at each use: a caller takes the table once, and lends it.
-pub fn table() -> [u8; 256]
+pub fn table() -> [u8; 64]
     ensures { λ r. ⌜ r ≡ facts ⌝ }
 {
     FACTS
@@ -307,37 +115,114 @@ pub(crate) fn of_86(first: u8) -> usize
         + part(first / 32 % 2 == 1, 5)
 }
 
-// What a value is to the cover and the length: 0 neither, 1 covered whole, 2 told of by its first octet and covered but for that, 3 told of and open.
-pub(crate) fn sort(facts: &[u8; 256], typ: u8) -> u8
-    ensures { λ r. ⌜ r ≡ sortIn (now (facts .entry)) typ ⌝ }
+// Types 0 to 78.
+pub(crate) fn below_79(typ: u8) -> usize
+    ensures { λ r. ⌜ Figure (below79 typ) r ⌝ }
 {
-    facts[typ as usize] / 64
+    if typ == 72 {
+        return 8;
+    }
+    if typ == 2 {
+        return 2;
+    }
+    1
+}
+
+// Types 80 to 95 that no first octet tells of.
+pub(crate) fn between(typ: u8) -> usize
+    ensures { λ r. ⌜ Figure (between typ) r ⌝ }
+{
+    if typ == 93 {
+        return 0;
+    }
+    if typ == 80 {
+        return 22;
+    }
+    if typ == 81 {
+        return 21;
+    }
+    if typ == 83 {
+        return 3;
+    }
+    if typ == 94 {
+        return 4;
+    }
+    if typ == 95 {
+        return 2;
+    }
+    1
+}
+
+// Types 96 to 255.
+pub(crate) fn above_95(typ: u8) -> usize
+    ensures { λ r. ⌜ Figure (above95 typ) r ⌝ }
+{
+    if typ == 180 {
+        return 0;
+    }
+    if typ == 183 {
+        return 4;
+    }
+    if typ == 170 {
+        return 4;
+    }
+    if typ == 114 {
+        return 2;
+    }
+    if typ == 255 {
+        return 2;
+    }
+    1
 }
 
 // The least length of a value of the type whose first octet is `first`.
-pub fn least(facts: &[u8; 256], typ: u8, first: u8) -> usize
-    ensures { λ r. ⌜ Figure (leastIn (now (facts .entry)) typ first) r ⌝ }
+pub fn least(typ: u8, first: u8) -> usize
+    ensures { λ r. ⌜ Figure (leastBy typ first) r ⌝ }
 {
-    if sort(facts, typ) < 2 {
-        return (facts[typ as usize] % 32) as usize;
+    if typ < 79 {
+        return below_79(typ);
+    }
+    if 95 < typ {
+        return above_95(typ);
     }
     if typ == 87 {
         return of_87(first);
     }
+    if typ == 86 {
+        return of_86(first);
+    }
     if typ == 79 {
         return of_79(first);
     }
-    of_86(first)
+    between(typ)
 }
 
-pub fn group(facts: &[u8; 256], typ: u8) -> bool
+// A type's mark in the table.
+pub(crate) fn mark(facts: &[u8; 64], typ: u8) -> u8
+    ensures { λ r. ⌜ r ≡ markIn (now (facts .entry)) typ ⌝ }
+{
+    let four = facts[(typ / 4) as usize];
+    let place = typ % 4;
+    if place == 0 {
+        return four % 4;
+    }
+    if place == 1 {
+        return four / 4 % 4;
+    }
+    if place == 2 {
+        return four / 16 % 4;
+    }
+    four / 64
+}
+
+pub fn group(facts: &[u8; 64], typ: u8) -> bool
     ensures { λ r. ⌜ r ≡ groupIn (now (facts .entry)) typ ⌝ }
 {
-    facts[typ as usize] / 32 % 2 == 1
+    mark(facts, typ) == 3
 }
 
 // How many leading octets of a value of `len` octets are left open: none if it is set aside.
-pub fn open_octets(facts: &[u8; 256], typ: u8, stand: u16, len: usize) -> usize
+pub fn open_octets(facts: &[u8; 64], typ: u8, stand: u16, len: usize) -> usize
     ensures { λ r. ⌜ r ≡ openIn (now (facts .entry)) typ stand len ⌝ }
 {
     if stand == 1 {
@@ -346,7 +231,7 @@ pub fn open_octets(facts: &[u8; 256], typ: u8, stand: u16, len: usize) -> usize
     if stand == 2 {
         return 0;
     }
-    let by_type = sort(facts, typ);
+    let by_type = mark(facts, typ);
     if by_type == 1 {
         return 0;
     }

@@ -32,7 +32,7 @@ pub(crate) fn clear_value(copy: &mut [u8], place: usize, len: usize, shown: usiz
 }
 
 // What is covered of the value of row `n`.
-pub(crate) fn clear_row(types: &[u8; 256], rows: &[u16], n: usize, copy: &mut [u8])
+pub(crate) fn clear_row(types: &[u8; 64], rows: &[u16], n: usize, copy: &mut [u8])
     requires { ⌜ (now types ≡ facts) × RowWithin (now rows) n (length (now copy)) ⌝ }
     ensures { λ _. ⌜ now (copy .exit) ≡ clearedRow (now (rows .entry)) n (now (copy .entry)) ⌝ }
 {
@@ -44,7 +44,7 @@ pub(crate) fn clear_row(types: &[u8; 256], rows: &[u16], n: usize, copy: &mut [u
 }
 
 // What is covered of the values of the first `count` rows.
-pub(crate) fn clear_rows(types: &[u8; 256], rows: &[u16], count: usize, copy: &mut [u8])
+pub(crate) fn clear_rows(types: &[u8; 64], rows: &[u16], count: usize, copy: &mut [u8])
     requires { ⌜ (now types ≡ facts) × Within (now rows) count (length (now copy)) ⌝ }
     ensures { λ _. ⌜ now (copy .exit) ≡ clearedRows (now (rows .entry)) count (now (copy .entry)) ⌝ }
 {

@@ -10,7 +10,6 @@ use Rattle.rules.specs.Listings.{book}
 use Rattle.rules.specs.Taking.{Out, cut, whole, walk, inside}
 use Rattle.rules.specs.Verdicts.{accepted, invalidLength, mandatoryMissing}
 use Rattle.rules.specs.declared.Reading.{Reading}
-use Rattle.facts.specs.Facts.{facts}
 use Rattle.listings.specs.Data.{numbersOf}
 use Rattle.taking.specs.Lacks.{lackOf}
 use Rattle.taking.specs.Held.{Held, held, one, closed, Few}
@@ -57,15 +56,14 @@ pub record Ran (r : Walk) (rows : List ℕ) (n : ℕ) (o : Out Held) : Type 0 wh
   pub rows-left : rows ≡ heldOf o .rows
   pub few : Bounded r n
 
--- what is lent to a reading on a kind that there is: the type facts and the listings
-pub record Lent (k : ℕ) (ts xs : List ℕ) : Type 0 where
+-- what is lent to a reading on a kind that there is: the listings
+pub record Lent (k : ℕ) (xs : List ℕ) : Type 0 where
   pub kind : among k (book .kinds) ≡ true
-  pub types : ts ≡ facts
   pub levels : xs ≡ numbersOf book
 
 -- what a run asks: a level of the listings, and that it ends within the largest message
-pub record Fine (k v : ℕ) (ts xs : List ℕ) (o p at n : ℕ) (c : Counts) : Type 0 where
-  pub lent : Lent k ts xs
+pub record Fine (k v : ℕ) (xs : List ℕ) (o p at n : ℕ) (c : Counts) : Type 0 where
+  pub lent : Lent k xs
   pub level : v < length (book .levels)
   pub home : o ≤ largestMessage
   pub parent : p ≤ largestMessage
@@ -73,6 +71,6 @@ pub record Fine (k v : ℕ) (ts xs : List ℕ) (o p at n : ℕ) (c : Counts) : T
   pub ends : at + n ≤ largestMessage
 
 -- what entering a group asks: it has an inside
-pub record Enters (k v : ℕ) (ts xs : List ℕ) (o n : ℕ) (c : Counts) : Type 0 where
-  pub fine : Fine k v ts xs o 0 (o + 4) n c
+pub record Enters (k v : ℕ) (xs : List ℕ) (o n : ℕ) (c : Counts) : Type 0 where
+  pub fine : Fine k v xs o 0 (o + 4) n c
   pub some : 0 < v

@@ -73,14 +73,12 @@ pub(crate) fn read_body(kind: u32, message: &[u8], rows: &mut [u16]) -> Reading
     requires { ⌜ refuses (first (headerChecks book kind (now message))) ≡ false ⌝ }
     ensures { λ r. ⌜ Read kind (now (message .entry)) (now (rows .entry)) r (now (rows .exit)) ⌝ }
 {
-    let types = facts::table();
     let levels = listings::numbers();
     let at = heading::start(message);
     let level = heading::body(message);
     match run::read_run(
         kind,
         level,
-        &types,
         &levels,
         &message[at..],
         0,

@@ -14,7 +14,6 @@ use taking::line;
 pub(crate) fn read_run(
     kind: u32,
     level: u8,
-    types: &[u8; 256],
     levels: &[u32],
     part: &[u8],
     home: usize,
@@ -23,7 +22,7 @@ pub(crate) fn read_run(
     rows: &mut [u16],
     before: Counts,
 ) -> Walk
-    requires { ⌜ Fine kind level (now types) (now levels) home parent base (length (now part)) before ⌝ }
+    requires { ⌜ Fine kind level (now levels) home parent base (length (now part)) before ⌝ }
     ensures { λ r. ⌜ Ran r (now (rows .exit)) (base + length (now (part .entry)))
         (scan kind level fresh parent home base (now (part .entry)) (held before (now (rows .entry)))) ⌝ }
 {
@@ -40,7 +39,6 @@ pub(crate) fn read_run(
         let e = element::take_one(
             kind,
             level,
-            types,
             lines,
             h,
             place,
@@ -60,7 +58,6 @@ pub(crate) fn read_run(
         match enter_group(
             kind,
             inner,
-            types,
             levels,
             &part[value..next],
             place,
@@ -83,21 +80,19 @@ pub(crate) fn read_run(
 pub(crate) fn enter_group(
     kind: u32,
     inner: u8,
-    types: &[u8; 256],
     levels: &[u32],
     group: &[u8],
     home: usize,
     rows: &mut [u16],
     counts: Counts,
 ) -> Walk
-    requires { ⌜ Enters kind inner (now types) (now levels) home (length (now group)) counts ⌝ }
+    requires { ⌜ Enters kind inner (now levels) home (length (now group)) counts ⌝ }
     ensures { λ r. ⌜ Ran r (now (rows .exit)) (home + 4 + length (now (group .entry)))
         (scanIn kind inner home (now (group .entry)) (held counts (now (rows .entry)))) ⌝ }
 {
     read_run(
         kind,
         inner,
-        types,
         levels,
         group,
         home,

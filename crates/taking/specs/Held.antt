@@ -10,7 +10,6 @@ use Rattle.rules.specs.Framing.{headOf}
 use Rattle.rules.specs.Listings.{anyInstance, book}
 use Rattle.rules.specs.Standing.{Item, kept, valuePlace, itemOf, marked, entered}
 use Rattle.rules.specs.declared.Head.{Head}
-use Rattle.facts.specs.Facts.{facts}
 use Rattle.standings.specs.Faults.{firstFault, lesser}
 use Rattle.taking.specs.Lent.{Lines}
 use Rattle.taking.specs.Lacks.{fault}
@@ -77,9 +76,8 @@ pub record RowFits (row place parent len : ℕ) : Type 0 where
   pub under : parent ≤ largestMessage
   pub ends : place + 4 + len ≤ largestMessage
 
--- what taking the element with head h at `at` asks: the type facts ts and the lines xs of its level
-pub record Takes (k v : ℕ) (ts xs : List ℕ) (h : Head) (at p : ℕ) (c : Counts) : Type 0 where
-  pub types : ts ≡ facts
+-- what taking the element with head h at `at` asks: the lines xs of its level
+pub record Takes (k v : ℕ) (xs : List ℕ) (h : Head) (at p : ℕ) (c : Counts) : Type 0 where
   pub lent : Lines k v xs
   pub inst : h .inst < anyInstance
   pub parent : p ≤ largestMessage

@@ -5,7 +5,6 @@ ghost use mathlib.Core.Bool.{true};
 ghost use lib.ListN.{length};
 ghost use Rattle.rules.specs.Framing.{noHead};
 ghost use Rattle.rules.specs.Standing.{isShort};
-ghost use Rattle.facts.specs.Facts.{facts};
 ghost use Rattle.taking.specs.Lacks.{fault};
 ghost use Rattle.taking.specs.Held.{held, shortOf, counted, putNumbers, Few, Looked, RowFits, Takes, Took};
 use crate::Counts;
@@ -57,11 +56,10 @@ pub fn look(part: &[u8], at: usize) -> Head
 }
 
 // Is the value below its least length?
-pub(crate) fn is_short(types: &[u8; 256], h: Head) -> bool
-    requires { ⌜ now types ≡ facts ⌝ }
+pub(crate) fn is_short(h: Head) -> bool
     ensures { λ r. ⌜ r ≡ isShort h ⌝ }
 {
-    h.len < facts::least(types, h.typ, h.first)
+    h.len < facts::least(h.typ, h.first)
 }
 
 // A place with a pair as one number, which grows with the place.
@@ -155,7 +153,6 @@ pub(crate) fn write_row(
 pub fn take_one(
     kind: u32,
     level: u8,
-    types: &[u8; 256],
     lines: &[u32],
     h: Head,
     place: usize,
@@ -164,7 +161,7 @@ pub fn take_one(
     rows: &mut [u16],
     counts: Counts,
 ) -> Taken
-    requires { ⌜ Takes kind level (now types) (now lines) h place parent counts ⌝ }
+    requires { ⌜ Takes kind level (now lines) h place parent counts ⌝ }
     ensures { λ r. ⌜ Took r (now (seen .exit)) (now (rows .exit)) kind level (now (seen .entry)) parent place h (held counts (now (rows .entry))) ⌝ }
 {
     let typ = h.typ;
@@ -178,7 +175,7 @@ pub fn take_one(
         };
     }
     let line = lines[n];
-    let short = is_short(types, h);
+    let short = is_short(h);
     let old = seen[n];
     let stand = standings::listed_standing(line::many(line), old, short);
     seen[n] = standings::mark_after(old, stand);

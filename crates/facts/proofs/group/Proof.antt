@@ -1,16 +1,16 @@
--- `facts::group` meets its contract: it is the reading of the entry. Assumes nothing.
+-- `group` is a test of the mark. Assumes nothing.
 use mathlib.Core.Path.{refl}
 use borrow.Author.Needs.{needs}
 use Rattle.facts.specs.Facts.{groupIn}
 use Rattle.facts.proofs.group.Statement.{statement}
 use Rattle.facts.proofs.group.Tie as tie
 
-element-copy-out-result : tie.Need-element-copy-out-result
-element-copy-out-result c = search needs
+mark-requires : tie.Need-mark-requires
+mark-requires c κs = search needs
 
 returns : tie.Need-returns
 unfolding groupIn
-returns c = refl
+returns c = rw (c .mark .ensures)
 
 pub group-spec : {M : Type 1} → statement M
-group-spec = tie.close (tie.spec element-copy-out-result returns)
+group-spec = tie.close (tie.spec mark-requires returns)

@@ -31,26 +31,26 @@ use Rattle.taking.proofs.line.of_level.Reads as of-level-reads
 use Rattle.reading.proofs.run.+enter_group+read_run.{statement}
 use Rattle.reading.proofs.run.+enter_group+read_run.Tie.{close}
 
-abbrev μ-enter-group : Measures 4 enter-group-kinds.ps ℕ
-μ-enter-group κs a = length (a .1 .1 .1 .1 .0 .now) + 1
+abbrev μ-enter-group : Measures 3 enter-group-kinds.ps ℕ
+μ-enter-group κs a = length (a .1 .1 .1 .0 .now) + 1
 
-abbrev μ-read-run : Measures 4 read-run-kinds.ps ℕ
-μ-read-run κs a = length (a .1 .1 .1 .1 .0 .now)
+abbrev μ-read-run : Measures 3 read-run-kinds.ps ℕ
+μ-read-run κs a = length (a .1 .1 .1 .0 .now)
 
-abbrev enter-group-at : ℕ → In 4 enter-group-kinds.ps
+abbrev enter-group-at : ℕ → In 3 enter-group-kinds.ps
 enter-group-at t =
-    and 4 enter-group-kinds.ps (is 4 enter-group-kinds.ps μ-enter-group t) enter-group.Pre
+    and 3 enter-group-kinds.ps (is 3 enter-group-kinds.ps μ-enter-group t) enter-group.Pre
 
-abbrev enter-group-below : ℕ → In 4 enter-group-kinds.ps
+abbrev enter-group-below : ℕ → In 3 enter-group-kinds.ps
 enter-group-below t =
-    and 4 enter-group-kinds.ps (falls 4 enter-group-kinds.ps _<_ μ-enter-group t) enter-group.Pre
+    and 3 enter-group-kinds.ps (falls 3 enter-group-kinds.ps _<_ μ-enter-group t) enter-group.Pre
 
-abbrev read-run-at : ℕ → In 4 read-run-kinds.ps
-read-run-at t = and 4 read-run-kinds.ps (is 4 read-run-kinds.ps μ-read-run t) read-run.Pre
+abbrev read-run-at : ℕ → In 3 read-run-kinds.ps
+read-run-at t = and 3 read-run-kinds.ps (is 3 read-run-kinds.ps μ-read-run t) read-run.Pre
 
-abbrev read-run-below : ℕ → In 4 read-run-kinds.ps
+abbrev read-run-below : ℕ → In 3 read-run-kinds.ps
 read-run-below t =
-    and 4 read-run-kinds.ps (falls 4 read-run-kinds.ps _<_ μ-read-run t) read-run.Pre
+    and 3 read-run-kinds.ps (falls 3 read-run-kinds.ps _<_ μ-read-run t) read-run.Pre
 
 -- what is known of the callees
 abbrev read-run-calls : ℕ → read-run-lts.Claims
@@ -74,7 +74,7 @@ enter-group-read-run-requires t c κs =
     )
 
 enter-group-same-length : (t : ℕ) → enter-group-lts.Need-same-length (enter-group-calls t) (enter-group-at t) enter-group.Post
-enter-group-same-length t c = c .before .before .read-run .kept .1 .1 .1 .1 .1 .1 .1 .1 .0
+enter-group-same-length t c = c .before .before .read-run .kept .1 .1 .1 .1 .1 .1 .1 .0
 
 enter-group-returns : (t : ℕ) → enter-group-lts.Need-returns (enter-group-calls t) (enter-group-at t) enter-group.Post
 enter-group-returns t c =
@@ -86,11 +86,11 @@ enter-group-returns t c =
 -- ---- read_run
 
 abbrev read-run-Inv-loop : read-run-lts.InvT-loop
-read-run-Inv-loop kind level types levels part home base parent rows₀ lines seen₀ counts₀ at₀ rows seen counts at =
+read-run-Inv-loop kind level levels part home base parent rows₀ lines seen₀ counts₀ at₀ rows seen counts at =
     Turning kind level parent home base part rows₀ counts₀ rows seen counts at
 
 abbrev read-run-μ-loop : read-run-lts.MeasureT-loop
-read-run-μ-loop kind level types levels part home base parent rows₀ lines seen₀ counts₀ at₀ rows seen counts at = length part - at
+read-run-μ-loop kind level levels part home base parent rows₀ lines seen₀ counts₀ at₀ rows seen counts at = length part - at
 
 -- after the test of the head the element is whole, and lies in the part
 whole : (t : ℕ) (c : read-run-lts.Else1 (read-run-calls t) (read-run-at t) read-run.Post read-run-Inv-loop read-run-μ-loop) → c .before .before .look .result .whole ≡ true
@@ -153,7 +153,6 @@ read-run-take-one-requires t c κs =
     let e = c .before .before in
     let l = e .before .before .before .before in
     let s = l .before .before .before .before .before in record {
-      types = s .pre .1 .lent .types;
       lent = lines t (l .before);
       inst = e .before .before .look .ensures .inst;
       parent = s .pre .1 .parent;
@@ -179,7 +178,7 @@ read-run-loop-again t c =
     let s = l .before .before .before .before .before in record {
       passed = lies t e;
       few = record { kept = k .take-one .ensures .few .kept; rows = omega (arith, k .take-one .ensures .few .rows) };
-      room = k .take-one .kept .1 .1 .1 .1 .1 .1 .1 .1 .0 ∙ l .loop .inv .room;
+      room = k .take-one .kept .1 .1 .1 .1 .1 .1 .1 .0 ∙ l .loop .inv .room;
       goes = sym (passes (s .args .home) (s .args .base) (s .args .part .now) (l .loop .at) (e .before .before .before .loop-test .taken) (e .before .before .look .ensures .is)
           (whole t e) (lies t e) (k .take-one .ensures) (c .before .if2 .taken)) ∙ l .loop .inv .goes;
     }
@@ -222,7 +221,7 @@ read-run-same-length-2 t c =
     let g = c .before .before .before .before .before in
     let k = g .before .before .before .before .before .before .before in
     let l = k .before .before .before .before .before .before .before in
-    g .enter-group .kept .1 .1 .1 .1 .1 .1 .0 ∙ k .take-one .kept .1 .1 .1 .1 .1 .1 .1 .1 .0 ∙ l .loop .inv .room
+    g .enter-group .kept .1 .1 .1 .1 .1 .0 ∙ k .take-one .kept .1 .1 .1 .1 .1 .1 .1 .0 ∙ l .loop .inv .room
 
 read-run-returns-2 : (t : ℕ) → read-run-lts.Need-returns-2 (read-run-calls t) (read-run-at t) read-run.Post read-run-Inv-loop read-run-μ-loop
 read-run-returns-2 t c =
@@ -255,7 +254,7 @@ read-run-loop-again-2 t c =
     let x = ran-is (c .before .c .given .1) (g .enter-group .ensures) in record {
       passed = lies t e;
       few = record { kept = x .few .kept; rows = omega (arith, inner-length t k, x .few .rows) };
-      room = g .enter-group .kept .1 .1 .1 .1 .1 .1 .0 ∙ k .take-one .kept .1 .1 .1 .1 .1 .1 .1 .1 .0 ∙ l .loop .inv .room;
+      room = g .enter-group .kept .1 .1 .1 .1 .1 .0 ∙ k .take-one .kept .1 .1 .1 .1 .1 .1 .1 .0 ∙ l .loop .inv .room;
       goes = sym (goes-on (s .args .home) (s .args .base) (s .args .part .now) (l .loop .at) (e .before .before .before .loop-test .taken) (e .before .before .look .ensures .is)
           (whole t e) (lies t e) (k .take-one .ensures) x) ∙ l .loop .inv .goes;
     }
