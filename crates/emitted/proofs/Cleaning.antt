@@ -1,5 +1,5 @@
 -- The cleaned copy, of any listings that pass the test `sound`. Assumes nothing.
---     clean-accepted   the cleaned copy is accepted on the same kind, with a table large enough, and every row is kept
+--     clean-accepted   given room for its table, the judge takes it under the message's kind, and sets no row aside
 --     clean-rows       its rows are the message's kept rows, in order, parents numbered anew: types, last header octets, values
 --     clean-shorter    it is no longer than the message           clean-first, clean-second, clean-front   its header is the message's, but for the length
 --     clean-twice      cleaning it again changes nothing          clean-same   nor does cleaning a message with every row kept

@@ -38,7 +38,7 @@ module _ (b : Book) (k : ℕ) (m : List ℕ) where
   abbrev pub tooShort : ℕ → Verdict
   tooShort room = check (ltb room (length cleaned)) (refused 13 0)
 
-  -- 1 to 9, 11 and 12 as the judge gives them with a table large enough, then 13 if the buffer is shorter than the cleaned copy
+  -- what is asked, in turn: the framing, a short row that a line needs, a line that lacks one, and last the room
   unfoldable pub cleanChecks : ℕ → List Verdict
   cleanChecks room = framingChecks b k m ++ (shortVerdict (items b k m) ∷ lackVerdict b k (bodyLevel b m) (items b k m) ∷ tooShort room ∷ [])
 
