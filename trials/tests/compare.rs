@@ -89,30 +89,41 @@ fn samples() -> Vec<(String, Vec<u8>)> {
     paths.map(sample).collect()
 }
 
-#[test]
-fn every_octet_of_every_sample_changed() {
+/// Each octet of a sample with each value, on each kind; answers how many messages that is.
+fn every_octet_changed(name: &str, message: &[u8]) -> usize {
     let mut count = 0;
-    for (name, message) in samples() {
-        for at in 0..message.len() {
-            for value in 0..=255 {
-                let mut changed = message.clone();
-                changed[at] = value;
-                for kind in 1..=3 {
-                    let case = Case { kind, message: changed.clone() };
-                    let enough = case.enough();
-                    let mut lent = vec![enough];
-                    // buffers one short and one longer for every eighth value
-                    if value % 8 == 7 {
-                        lent.push(Buffers { copy: enough.copy.saturating_sub(1), clean: enough.clean.saturating_sub(1), ..enough });
-                        lent.push(Buffers { copy: enough.copy + 1, clean: enough.clean + 1, ..enough });
-                    }
-                    for buffers in lent {
-                        assert_eq!(difference(&case, buffers), None, "{name} at {at}: {value}");
-                    }
-                    count += 1;
+    for at in 0..message.len() {
+        for value in 0..=255 {
+            let mut changed = message.to_vec();
+            changed[at] = value;
+            for kind in 1..=3 {
+                let case = Case { kind, message: changed.clone() };
+                let enough = case.enough();
+                let mut lent = vec![enough];
+                // buffers one short and one longer for every eighth value
+                if value % 8 == 7 {
+                    lent.push(Buffers { copy: enough.copy.saturating_sub(1), clean: enough.clean.saturating_sub(1), ..enough });
+                    lent.push(Buffers { copy: enough.copy + 1, clean: enough.clean + 1, ..enough });
                 }
+                for buffers in lent {
+                    assert_eq!(difference(&case, buffers), None, "{name} at {at}: {value}");
+                }
+                count += 1;
             }
         }
     }
+    count
+}
+
+#[test]
+fn every_octet_of_every_sample_changed() {
+    let samples = samples();
+    let cores = std::thread::available_parallelism().map_or(1, usize::from);
+    let count: usize = std::thread::scope(|scope| {
+        let share = |first| samples.iter().skip(first).step_by(cores);
+        let threads: Vec<_> =
+            (0..cores).map(|first| scope.spawn(move || share(first).map(|(name, message)| every_octet_changed(name, message)).sum::<usize>())).collect();
+        threads.into_iter().map(|thread| thread.join().expect("no difference")).sum()
+    });
     assert!(count > 100_000, "only {count} changes were tried");
 }
