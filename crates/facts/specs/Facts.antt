@@ -2,7 +2,7 @@
 use mathlib.Core.Path.{_≡_}
 use mathlib.Core.Bool.{Bool, cond, _&&_}
 use mathlib.Core.List.{List, [], _∷_}
-use Prim.Native.Nat.{ℕ, zero, suc, _+_, _*_, _/_, _%_, _≤_, _<_}
+use Prim.Native.Nat.{ℕ, zero, suc, _+_, _*_, _/_, _%_, _^_, _≤_, _<_}
 use lib.Dec.{eqb, ltb}
 use lib.ListN.{getD}
 use Rattle.rules.specs.Types.{leastOf, isGroup, coversWhole, coversRest}
@@ -50,7 +50,7 @@ facts = octetsFrom 0 64
 
 -- the mark of a place in an octet
 unfoldable pub markAt : ℕ → ℕ → ℕ
-markAt four place = cond (eqb place 0) (four % 4) (cond (eqb place 1) (four / 4 % 4) (cond (eqb place 2) (four / 16 % 4) (four / 64)))
+markAt four place = four / 2 ^ (2 * place) % 4
 
 unfoldable pub markIn : List ℕ → ℕ → ℕ
 markIn xs t = markAt (getD xs (t / 4) 0) (t % 4)

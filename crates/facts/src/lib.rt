@@ -202,17 +202,7 @@ pub(crate) fn mark(facts: &[u8; 64], typ: u8) -> u8
     ensures { λ r. ⌜ r ≡ markIn (now (facts .entry)) typ ⌝ }
 {
     let four = facts[(typ / 4) as usize];
-    let place = typ % 4;
-    if place == 0 {
-        return four % 4;
-    }
-    if place == 1 {
-        return four / 4 % 4;
-    }
-    if place == 2 {
-        return four / 16 % 4;
-    }
-    four / 64
+    (four >> (2 * (typ % 4))) % 4
 }
 
 pub fn group(facts: &[u8; 64], typ: u8) -> bool
