@@ -1,5 +1,5 @@
 /*
- * Judge, mask and clean on a thread with a small stack, on buffers of exact size that end right before a page that may not be touched and
+ * Judge, mask, clean and build on a thread with a small stack, on buffers of exact size that end right before a page that may not be touched and
  * then on ones that start right after such a page. Run from the folder that holds samples/.
  */
 #define _DEFAULT_SOURCE
@@ -20,21 +20,29 @@
 #define LEAST_LEFT 1024u /* octets of the stack that no call may write */
 #define MOST_A_LEVEL 512u
 
-enum { JUDGE, MASK, CLEAN, FUNCTIONS };
+enum { JUDGE, MASK, CLEAN, BUILD, FUNCTIONS };
 
 typedef uint16_t function(uint32_t, const uint8_t *, size_t, uint8_t *, size_t, uint8_t *, size_t);
-static function *const functions[FUNCTIONS] = {wok_judge, wok_mask, wok_clean};
-static const char *const names[FUNCTIONS] = {"judge", "mask", "clean"};
-static const size_t number_octets[FUNCTIONS] = {WOK_FIVE_OCTETS, WOK_FIVE_OCTETS, WOK_ANSWER_OCTETS};
+static function *const functions[BUILD] = {wok_judge, wok_mask, wok_clean};
+static const char *const names[FUNCTIONS] = {"judge", "mask", "clean", "build"};
+static const size_t number_octets[FUNCTIONS] = {WOK_FIVE_OCTETS, WOK_FIVE_OCTETS, WOK_ANSWER_OCTETS, WOK_ANSWER_OCTETS};
+static const size_t said[FUNCTIONS] = {15 * 1024, 15 * 1024, 15 * 1024, 18 * 1024}; /* the stack of a call, as the header has it */
+
+/* What the builder has besides, of the message that it is to make again. */
+struct head {
+    uint32_t type, teid, sequence;
+    const uint8_t *table;
+    size_t table_len;
+};
 
 struct call {
     int which;
     uint32_t kind;
-    const uint8_t *message;
+    const uint8_t *message; /* the builder's values */
     size_t message_len;
     uint8_t *out;
     size_t out_len;
-    uint8_t *numbers; /* the five, or the cleaner's six */
+    uint8_t *numbers; /* the five, or the six of cleaner and builder */
     size_t numbers_len;
     uint16_t code;
     size_t used;    /* octets of the stack, from the caller's frame down to the lowest one written */
@@ -42,10 +50,11 @@ struct call {
     size_t left;    /* octets of the stack below these */
 };
 
-static uint8_t *stack, *message_room, *out_room, *numbers_room;
+static uint8_t *stack, *message_room, *table_room, *out_room, *numbers_room;
+static struct head head; /* of the builder's next call */
 static size_t most_used[2][FUNCTIONS], most_written[2][FUNCTIONS]; /* by larger */
 static size_t least_left = STACK_OCTETS;
-static unsigned passed, failed;
+static unsigned passed, failed, rebuilt;
 
 static void fail(const char *what) {
     perror(what);
@@ -76,7 +85,11 @@ static uint8_t *exact(uint8_t *room, size_t len, int at_end) {
 static void *on_small_stack(void *argument) {
     struct call *c = argument;
     volatile uint8_t frame = 0;
-    c->code = functions[c->which](c->kind, c->message, c->message_len, c->out, c->out_len, c->numbers, c->numbers_len);
+    if (c->which == BUILD)
+        c->code = wok_build(c->kind, head.type, head.teid, head.sequence, head.table, head.table_len, c->message, c->message_len, c->out, c->out_len,
+                            c->numbers, c->numbers_len);
+    else
+        c->code = functions[c->which](c->kind, c->message, c->message_len, c->out, c->out_len, c->numbers, c->numbers_len);
     size_t top = (size_t)((uintptr_t)&frame - (uintptr_t)stack);
     while (c->left < top && stack[c->left] == PATTERN) c->left++;
     c->used = top - c->left;
@@ -137,7 +150,7 @@ static void check_call(const char *name, const struct call *c, const unsigned fi
     size_t len = number_octets[c->which];
     int whole = c->numbers_len >= len, same = c->code == five[0];
     for (size_t i = 0; whole && i < 5; i++) same = same && number(c->numbers, i) == five[i];
-    if (whole && c->which == CLEAN) same = same && number(c->numbers, 5) == (c->code == WOK_ACCEPTED ? written : 0);
+    if (whole && len == WOK_ANSWER_OCTETS) same = same && number(c->numbers, 5) == (c->code == WOK_ACCEPTED ? written : 0);
     check(same, name, names[c->which]);
     check(rest_stays(out_room, c->out, c->code == WOK_ACCEPTED ? written : 0), name, "a write outside the table or copy");
     check(rest_stays(numbers_room, c->numbers, whole ? len : 0), name, "a write outside the numbers answered");
@@ -169,11 +182,11 @@ static void mask_exact(const struct given *g, const unsigned five[5]) {
     if (copied) try_call(MASK, g, g->len - 1, copy_short, 0);
 }
 
-/* Answer buffers around 12 octets: too short for the numbers, they stay, and the copy is made all the same. */
-static void clean_answers(const struct given *g, const unsigned five[5], size_t out_len, size_t written) {
+/* Answer buffers around 12 octets: too short for the numbers, they stay, and the copy or message is made all the same. */
+static void answers_around(int which, const struct given *g, const unsigned five[5], size_t out_len, size_t written) {
     static const size_t lens[] = {0, WOK_ANSWER_OCTETS - 1, WOK_ANSWER_OCTETS, WOK_ANSWER_OCTETS + 3};
     for (size_t i = 0; i < sizeof lens / sizeof lens[0]; i++) {
-        struct call c = on_exact(CLEAN, g, out_len, lens[i]);
+        struct call c = on_exact(which, g, out_len, lens[i]);
         check_call(g->name, &c, five, written);
     }
 }
@@ -186,7 +199,7 @@ static void clean_exact(const struct given *g, const unsigned five[5]) {
     size_t len = number(c.numbers, 5);
     check_call(g->name, &c, five, len);
     check(len <= g->len, g->name, "the cleaned copy is longer than the message");
-    clean_answers(g, five, len, len);
+    answers_around(CLEAN, g, five, len, len);
     if (c.code != WOK_ACCEPTED || len > g->len) return;
     c = on_exact(CLEAN, g, g->len + 1, WOK_ANSWER_OCTETS);
     check_call(g->name, &c, five, len);
@@ -198,12 +211,62 @@ static void clean_exact(const struct given *g, const unsigned five[5]) {
     try_call(CLEAN, g, 0, copy_short, 0);
 }
 
+/* Are the bits that nothing reads zero, by the rows of a table? */
+static int zero_bits(const uint8_t *message, const uint8_t *table) {
+    size_t header = message[0] & 8 ? 12 : 8;
+    int zero = (message[0] & 7) == 0 && message[header - 1] == 0;
+    for (size_t row = 0; row < number(table, 0); row++)
+        zero = zero && message[number(table, WOK_HEADER_NUMBERS + WOK_ROW_NUMBERS * row + 3) - 1] < 16;
+    return zero;
+}
+
+static uint32_t big_endian(const uint8_t *octets, size_t len) {
+    uint32_t n = 0;
+    while (len-- > 0) n = n << 8 | *octets++;
+    return n;
+}
+
+/* The head of a message whose table was just judged, in pages that are for reading only: so many octets of it, at their end or start. */
+static void take_head(const struct given *g, const uint8_t *table, size_t len) {
+    int t = (g->message[0] & 8) != 0;
+    if (mprotect(table_room, ROOM, PROT_READ | PROT_WRITE) != 0) fail("read and write");
+    uint8_t *own = exact(table_room, len, g->at_end);
+    memcpy(own, table, len);
+    if (mprotect(table_room, ROOM, PROT_READ) != 0) fail("read only");
+    head = (struct head){g->message[1], t ? big_endian(g->message + 4, 4) : 0, big_endian(g->message + (t ? 8 : 4), 3), own, len};
+}
+
+/* An accepted message, built again from its own table: itself but for bits that nothing reads, in a room of its length and no shorter one; and 14
+   where a row is not kept, or the table is an octet shorter. */
+static void build_exact(const struct given *g, const unsigned five[5]) {
+    static const unsigned no_table[5] = {WOK_NO_TABLE}, too_large[5] = {WOK_TOO_LARGE};
+    static uint8_t table[WOK_TABLE_OCTETS];
+    struct call c = on_exact(JUDGE, g, WOK_TABLE_OCTETS, WOK_FIVE_OCTETS);
+    if (c.code != WOK_ACCEPTED) return;
+    size_t used = 2 * number(c.out, WOK_HEADER_NUMBERS - 1);
+    memcpy(table, c.out, used);
+    take_head(g, table, used - 1);
+    try_call(BUILD, g, g->len, no_table, 0);
+    take_head(g, table, used);
+    if (number(table, 0) != number(table, 1)) {
+        try_call(BUILD, g, g->len, no_table, 0);
+        return;
+    }
+    answers_around(BUILD, g, five, g->len, g->len);
+    c = on_exact(BUILD, g, g->len, WOK_ANSWER_OCTETS);
+    check(zero_bits(g->message, table) == (memcmp(c.out, g->message, g->len) == 0), g->name, "another message is built");
+    rebuilt++;
+    try_call(BUILD, g, g->len - 1, too_large, 0);
+    try_call(BUILD, g, 0, too_large, 0);
+}
+
 static void try_message(const char *name, uint32_t kind, const uint8_t *message, size_t len, const unsigned five[5]) {
     for (int at_end = 1; at_end >= 0; at_end--) {
         struct given g = {name, kind, message, len, at_end};
         judge_exact(&g, five);
         mask_exact(&g, five);
         clean_exact(&g, five);
+        build_exact(&g, five);
     }
 }
 
@@ -252,6 +315,20 @@ static void try_built(const char *name, const uint8_t *head, size_t head_len, si
     try_message(name, WOK_KIND_S11, message, len, five);
 }
 
+/* 4,096 octets of bearer contexts, every one kept: all of it is built again. */
+static void try_kept(void) {
+    static const unsigned accepted[5];
+    static const uint8_t head_octets[] = {0x48, 66, 0x0F, 0xFC, 0, 0, 0, 1, 0, 0, 1, 0}, context[] = {93, 0, 5, 0, 73, 0, 1, 0, 5};
+    static uint8_t message[WOK_LARGEST_MESSAGE];
+    memcpy(message, head_octets, sizeof head_octets);
+    size_t at = sizeof head_octets, rest = (sizeof message - sizeof head_octets) % sizeof context;
+    for (; at + sizeof context <= sizeof message; at += sizeof context) memcpy(message + at, context, sizeof context);
+    /* what is left over is the last element's, and its group's */
+    message[at - 7] = (uint8_t)(5 + rest);
+    message[at - 3] = (uint8_t)(1 + rest);
+    try_message("bearer contexts in 4,096 octets", WOK_KIND_S11, message, sizeof message, accepted);
+}
+
 static void try_all_built(void) {
     static const unsigned accepted[5], bad_size[5] = {WOK_BAD_SIZE};
     static const unsigned no_recovery[5] = {WOK_MANDATORY_MISSING, WOK_CAUSE_MANDATORY_IE_MISSING, 0, 3, 0};
@@ -284,13 +361,21 @@ static void try_null(int which, const uint8_t *message, size_t len, int has_out,
 /* A NULL with length 0 for each pointer in turn, on a good message. */
 static void try_nulls(void) {
     static const uint8_t echo[] = {0x40, 1, 0, 9, 0, 0, 1, 0, 3, 0, 1, 0, 7};
-    static const uint16_t out_short[FUNCTIONS] = {WOK_TABLE_SHORT, WOK_COPY_SHORT, WOK_COPY_SHORT};
-    for (int which = 0; which < FUNCTIONS; which++) {
+    static const uint16_t out_short[BUILD] = {WOK_TABLE_SHORT, WOK_COPY_SHORT, WOK_COPY_SHORT};
+    for (int which = 0; which < BUILD; which++) {
         try_null(which, NULL, 0, 1, 1, WOK_BAD_SIZE, "NULL for the message");
         try_null(which, echo, sizeof echo, 0, 1, out_short[which], "NULL for the table or copy");
         try_null(which, echo, sizeof echo, 1, 0, WOK_ACCEPTED, "NULL for the numbers");
         try_null(which, NULL, 0, 0, 0, WOK_BAD_SIZE, "NULL for all");
     }
+    static const uint8_t table[] = {0, 1, 0, 1, 0, 4, 0, 10, 0, 0, 0, 3, 0, 0, 0, 12, 0, 1, 0, 0};
+    head = (struct head){1, 0, 1, table, sizeof table};
+    try_null(BUILD, NULL, 0, 1, 1, WOK_NO_TABLE, "NULL for the values");
+    try_null(BUILD, echo, sizeof echo, 0, 1, WOK_TOO_LARGE, "NULL for the room");
+    try_null(BUILD, echo, sizeof echo, 1, 0, WOK_ACCEPTED, "NULL for the numbers");
+    head.table = NULL, head.table_len = 0;
+    try_null(BUILD, echo, sizeof echo, 1, 1, WOK_NO_TABLE, "NULL for the table");
+    try_null(BUILD, NULL, 0, 0, 0, WOK_NO_TABLE, "NULL for all");
 }
 
 /* What one level of the listings takes: a message with a kept group, against one without. */
@@ -307,21 +392,26 @@ static size_t level_octets(int which) {
 
 static void print_stack(int larger, const char *which) {
     const size_t *used = most_used[larger], *written = most_written[larger];
-    printf("stack: %zu octets for judge, %zu octets for mask, %zu octets for clean", used[JUDGE], used[MASK], used[CLEAN]);
-    printf(" (%s; written: %zu, %zu, %zu)\n", which, written[JUDGE], written[MASK], written[CLEAN]);
+    printf("stack:");
+    for (int f = 0; f < FUNCTIONS; f++) printf(" %zu octets for %s (%zu of them written)%c", used[f], names[f], written[f], f + 1 < FUNCTIONS ? ',' : ';');
+    printf(" %s\n", which);
 }
 
 int main(void) {
     stack = guarded(STACK_OCTETS);
     message_room = guarded(ROOM);
+    table_room = guarded(ROOM);
     out_room = guarded(ROOM);
     numbers_room = guarded(ROOM);
     unsigned samples = try_samples();
     check(samples > 30, "samples", "too few");
+    check(rebuilt > 50, "samples built again", "too few");
     try_all_built();
+    try_kept();
     try_nulls();
     check(least_left >= LEAST_LEFT, "stack", "too little is left");
-    printf("%u samples\n", samples);
+    for (int f = 0; f < FUNCTIONS; f++) check(most_used[0][f] < said[f] && most_used[1][f] < said[f], names[f], "more stack than the header says");
+    printf("%u samples, %u times built again\n", samples, rebuilt);
     print_stack(0, "messages of up to 264 octets");
     print_stack(1, "larger messages");
     printf("stack: a level of the listings takes %zu octets in judge, ", level_octets(JUDGE));

@@ -9,9 +9,31 @@ pub enum Command {
     Judge,
     Mask,
     Clean,
+    Edit,
+    Build,
 }
 
 impl Command {
+    fn named(word: &str) -> Option<Command> {
+        ALL.into_iter().find(|c| c.name() == word)
+    }
+
+    pub fn name(self) -> &'static str {
+        match self {
+            Command::Show => "show",
+            Command::Judge => "judge",
+            Command::Mask => "mask",
+            Command::Clean => "clean",
+            Command::Edit => "edit",
+            Command::Build => "build",
+        }
+    }
+
+    /// Whether it lists messages, any number of them.
+    pub fn lists(self) -> bool {
+        matches!(self, Command::Show | Command::Judge)
+    }
+
     /// Whether it writes copies.
     pub fn copies(self) -> bool {
         matches!(self, Command::Mask | Command::Clean)
@@ -22,10 +44,14 @@ impl Command {
         match self {
             Command::Clean => "cleaned",
             Command::Mask => "masked",
+            Command::Edit => "edited",
+            Command::Build => "built",
             Command::Judge | Command::Show => "shown",
         }
     }
 }
+
+const ALL: [Command; 6] = [Command::Show, Command::Judge, Command::Mask, Command::Clean, Command::Edit, Command::Build];
 
 #[derive(Clone, Copy, PartialEq, Debug)]
 pub enum Form {
@@ -60,7 +86,8 @@ fn refuse<T>(why: impl Into<String>) -> Result<T, Instead> {
     Err(Instead::Refuse(why.into()))
 }
 
-fn kind_of(word: &str) -> Option<(u32, &'static str)> {
+/// An interface's number and name.
+pub fn kind_of(word: &str) -> Option<(u32, &'static str)> {
     match word.to_ascii_uppercase().as_str() {
         "S11" => Some((1, "S11")),
         "S4" => Some((2, "S4")),
@@ -75,6 +102,8 @@ fn help_on(command: Command) -> &'static str {
         Command::Judge => help::JUDGE,
         Command::Mask => help::MASK,
         Command::Clean => help::CLEAN,
+        Command::Edit => help::EDIT,
+        Command::Build => help::BUILD,
     }
 }
 
@@ -85,7 +114,7 @@ fn edition() -> &'static str {
 
 pub fn version() -> String {
     format!(
-        "wok {}\nrules: docs/RULES.md of Wokshimmer, after 3GPP TS 29.274 (GTPv2-C); verdicts, tables, copies and pages are proved\n{}\n",
+        "wok {}\nrules: docs/RULES.md of Wokshimmer, after 3GPP TS 29.274 (GTPv2-C); verdicts, tables, copies, what is built and pages are proved\n{}\n",
         env!("CARGO_PKG_VERSION"),
         edition()
     )
@@ -94,15 +123,12 @@ pub fn version() -> String {
 pub fn parse(words: Vec<OsString>) -> Result<Args, Instead> {
     let mut words = words.into_iter();
     let first = words.next().unwrap_or_default();
-    let command = match first.to_str().unwrap_or("") {
-        "show" => Command::Show,
-        "judge" => Command::Judge,
-        "mask" => Command::Mask,
-        "clean" => Command::Clean,
-        "-h" | "--help" | "help" => return Err(Instead::Say(help::ALL.into())),
-        "--version" => return Err(Instead::Say(version())),
-        "" => return refuse("no command"),
-        other => return refuse(format!("no command '{other}'")),
+    let command = match (first.to_str().unwrap_or(""), first.to_str().and_then(Command::named)) {
+        (_, Some(command)) => command,
+        ("-h" | "--help" | "help", _) => return Err(Instead::Say(help::ALL.into())),
+        ("--version", _) => return Err(Instead::Say(version())),
+        ("", _) => return refuse("no command"),
+        (other, _) => return refuse(format!("no command '{other}'")),
     };
     let mut args = Args {
         command,
@@ -145,12 +171,13 @@ fn option(args: &mut Args, text: &str, words: &mut dyn Iterator<Item = OsString>
     }
     let mut value = || given.clone().or_else(|| words.next()).ok_or(Instead::Refuse(format!("{name} wants a value")));
     match (args.command, name) {
-        (Command::Show, "--subscriber") => args.right = true,
+        (Command::Show | Command::Edit, "--subscriber") => args.right = true,
         (Command::Show, "--long") => args.long = true,
         (Command::Show, "--json") => args.form = Form::Json,
         (Command::Show, "--csv") => args.form = Form::Csv,
-        (Command::Mask | Command::Clean, "--hex") => args.hex = true,
-        (Command::Mask | Command::Clean, "-o") => args.out = Some(value()?),
+        (Command::Mask | Command::Clean | Command::Build, "--hex") => args.hex = true,
+        (Command::Mask | Command::Clean | Command::Edit | Command::Build, "-o") => args.out = Some(value()?),
+        (Command::Build, _) => return refuse(format!("no option '{name}' here")),
         (_, "--port") => args.port = number(name, value()?)?,
         (_, "--message") => args.message = Some(number(name, value()?)?),
         _ => return refuse(format!("no option '{name}' here")),
@@ -167,20 +194,24 @@ fn number<T: std::str::FromStr + PartialEq + From<u8>>(name: &str, value: OsStri
 
 fn operated(mut args: Args, operands: Vec<OsString>) -> Result<Args, Instead> {
     let mut operands = operands.into_iter();
-    let Some(kind) = operands.next() else { return refuse("no KIND: S11, S4 or S5/S8") };
-    let Some((number, name)) = kind.to_str().and_then(kind_of) else {
-        return refuse(format!("no kind '{}': S11, S4 or S5/S8", kind.to_string_lossy()));
-    };
-    (args.kind, args.kind_name, args.files) = (number, name, operands.collect());
+    // what is built says its kind itself
+    if args.command != Command::Build {
+        let Some(kind) = operands.next() else { return refuse("no KIND: S11, S4 or S5/S8") };
+        let Some((number, name)) = kind.to_str().and_then(kind_of) else {
+            return refuse(format!("no kind '{}': S11, S4 or S5/S8", kind.to_string_lossy()));
+        };
+        (args.kind, args.kind_name) = (number, name);
+    }
+    args.files = operands.collect();
     if args.files.is_empty() {
         return refuse("no FILE");
     }
     if args.files.iter().filter(|f| *f == "-").count() > 1 {
         return refuse("- more than once");
     }
-    if args.command.copies() && args.files.len() > 1 && !args.hex {
-        let name = if args.command == Command::Clean { "clean" } else { "mask" };
-        return refuse(format!("{name} takes one FILE, or several with --hex"));
+    match (args.command, args.files.len()) {
+        (Command::Mask | Command::Clean, 2..) if !args.hex => refuse(format!("{} takes one FILE, or several with --hex", args.command.name())),
+        (Command::Edit | Command::Build, 2..) => refuse(format!("{} takes one FILE", args.command.name())),
+        _ => Ok(args),
     }
-    Ok(args)
 }

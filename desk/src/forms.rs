@@ -88,7 +88,7 @@ pub struct View {
     pub sentence: String,
     octets: usize,
     copy: Option<Vec<u8>>,
-    seen: Option<Vec<u8>>,
+    pub seen: Option<Vec<u8>>,
 }
 
 impl View {
@@ -135,12 +135,26 @@ fn five_of(five: &Five) -> String {
 }
 
 /// The header's fields, of a message that passes checks 1 to 9.
+pub struct Header {
+    pub teid: Option<[u8; 4]>,
+    pub sequence: u32,
+    /// its length
+    pub octets: usize,
+}
+
+impl Header {
+    pub fn of(seen: &[u8]) -> Header {
+        let t = seen[0] & 8 != 0;
+        let at = if t { 8 } else { 4 };
+        let teid = t.then(|| [seen[4], seen[5], seen[6], seen[7]]);
+        Header { teid, sequence: u32::from_be_bytes([0, seen[at], seen[at + 1], seen[at + 2]]), octets: at + 4 }
+    }
+}
+
 fn header_of(seen: &[u8]) -> String {
-    let t = seen[0] & 8 != 0;
-    let at = if t { 8 } else { 4 };
-    let teid = if t { quoted(&hex(&seen[4..8])) } else { "null".into() };
+    let Header { teid, sequence, .. } = Header::of(seen);
+    let teid = teid.map_or("null".into(), |t| quoted(&hex(&t)));
     let length = u16::from_be_bytes([seen[2], seen[3]]);
-    let sequence = u32::from_be_bytes([0, seen[at], seen[at + 1], seen[at + 2]]);
     format!(r#"{{"version":{},"type":{},"length":{length},"teid":{teid},"sequence":{sequence}}}"#, seen[0] >> 5, seen[1])
 }
 

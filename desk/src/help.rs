@@ -5,6 +5,8 @@ usage: wok show KIND FILE...    the message in words: verdict, rows, names and v
        wok judge KIND FILE...   the verdict, and the rows of an accepted message, in numbers
        wok mask KIND FILE...    the masked copy, for people outside
        wok clean KIND FILE...   the cleaned copy, to forward; it masks nothing
+       wok edit KIND FILE       a message as text, to be changed
+       wok build FILE           the message of such a text
        wok COMMAND --help       more on one of them
        wok --version            the tool and the rules
 
@@ -14,7 +16,7 @@ KIND is S11, S4 or S5/S8 (S5 and S8 will do). FILE is - for standard input, and 
   one message in raw octets
 --message N takes the N-th message alone. Names that begin with - stand after --.
 
-Exit status: 0 accepted, masked or cleaned, 1 refused (or one of several was), 2 bad use, or a file that can't be read or written.
+Exit status: 0 accepted or made, 1 refused (or one of several was), 2 bad use, or a file that can't be read or written.
 ";
 
 pub const SHOW: &str = "\
@@ -64,4 +66,34 @@ status is 1.
 
 Cleaning masks NOTHING: the subscriber's values are in the copy. It is for forwarding, not for the support desk or people outside: for these
 there is wok mask.
+";
+
+pub const EDIT: &str = "\
+usage: wok edit [--subscriber] [-o OUT] [--message N] [--port N] KIND FILE
+
+One message as text that a person can change and wok build makes a message of; to standard output, or to OUT. It says the kind, type, TEID
+and sequence number, then a line an element: type/instance, its value in hex, its name behind #. What stands in a group follows it, further in.
+Elements that are set aside (not listed, repeated or short) are left out: they stand there behind #, to be brought back by taking that away, but
+for what is inside a group. Bits that nothing reads come back as zero.
+A message that is refused by 11 or 12 is written too. Of the mandatory element that the verdict names there is a line: to be made longer if it is
+short, behind # if it is missing. A message that is refused by 1 to 9 cannot be written: the reason is said, and the exit status is 1.
+Without --subscriber this is the masked copy: what is covered is ZERO in it, which its first lines and the lines of those elements say.
+  --subscriber   with the subscriber's values: for those who may see them
+";
+
+pub const BUILD: &str = "\
+usage: wok build [--hex] [-o OUT] FILE
+
+The message of a text that wok edit wrote, or that is written like this; to standard output, or to OUT. All lengths are worked out.
+  kind S11                  or S4, S5/S8
+  type 66                   # to a line's end is a comment
+  teid 0x00000001           8 hex digits; none for Echo Request and Echo Response
+  sequence 2                0 to 16777215, or in hex with 0x
+  93/0                      a group: its elements stand below, further in, by blanks or by tabs
+    73/0: 05                type/instance: value in hex digits, blanks between octets or none; after the colon nothing is an empty value
+  --hex   as hex text that text2pcap reads
+
+A message is made only if it is accepted with every element kept. Otherwise nothing is written, and what is wrong is said with its line:
+the first line that cannot be read, with exit status 2; or, with exit status 1, why the message is refused: its type is not handled, it is over
+4,096 octets, elements are not listed there, stand twice or are short, or a mandatory one is missing (one of these at a time).
 ";

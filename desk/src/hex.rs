@@ -40,11 +40,11 @@ fn fault<T>(line: usize, expected: impl Into<String>) -> Result<T, Fault> {
     Err(Fault { line, expected: expected.into() })
 }
 
-fn blank(c: char) -> bool {
+pub(crate) fn blank(c: char) -> bool {
     c == ' ' || c == '\t'
 }
 
-fn is_hex(word: &str) -> bool {
+pub(crate) fn is_hex(word: &str) -> bool {
     !word.is_empty() && word.bytes().all(|b| b.is_ascii_hexdigit())
 }
 
@@ -119,6 +119,6 @@ fn groups(number: usize, text: &str) -> Result<(Vec<u8>, Vec<usize>), Fault> {
     Ok((octets, sizes))
 }
 
-fn pairs(digits: &str) -> Vec<u8> {
+pub(crate) fn pairs(digits: &str) -> Vec<u8> {
     digits.as_bytes().chunks(2).map(|p| u8::from_str_radix(std::str::from_utf8(p).unwrap(), 16).unwrap()).collect()
 }

@@ -12,6 +12,18 @@ pub enum Content {
 
 /// What a file has, or why it cannot be read.
 pub fn load(file: &OsStr, port: u16) -> Result<Content, String> {
+    told(octets(file)?, port)
+}
+
+/// A file's text.
+pub fn text(file: &OsStr) -> Result<String, String> {
+    match octets(file)? {
+        octets if octets.is_empty() => Ok(String::new()),
+        octets => text_of(&octets).ok_or("it is no text, as wok edit writes one".into()),
+    }
+}
+
+fn octets(file: &OsStr) -> Result<Vec<u8>, String> {
     let mut octets = vec![];
     let read = if file == "-" {
         std::io::stdin().lock().read_to_end(&mut octets)
@@ -19,7 +31,7 @@ pub fn load(file: &OsStr, port: u16) -> Result<Content, String> {
         std::fs::File::open(file).and_then(|mut f| f.read_to_end(&mut octets))
     };
     read.map_err(|e| format!("cannot be read: {e}"))?;
-    told(octets, port)
+    Ok(octets)
 }
 
 /// Octets told by what they are: a capture, hex text, or a message.

@@ -1,5 +1,6 @@
 //! The proved library through its C exports: all that is said of a message comes from here.
 
+use crate::page;
 use std::os::raw::c_uint;
 
 extern "C" {
@@ -42,6 +43,13 @@ fn numbers(octets: &[u8; 10]) -> Five {
     std::array::from_fn(|i| number(octets, i))
 }
 
+fn named(what: u8, number: u8) -> String {
+    let mut name = [0u8; 64];
+    // SAFETY: the pointer is valid for the length beside it.
+    let n = unsafe { wok_name(what, number, name.as_mut_ptr(), name.len()) };
+    String::from_utf8_lossy(&name[..n.min(name.len())]).into_owned()
+}
+
 impl Library {
     pub fn new(kind: u32) -> Library {
         Library { kind, table: vec![0; TABLE], page: vec![0; PAGE] }
@@ -58,6 +66,28 @@ impl Library {
         let table = &self.table;
         let row = |i: usize| std::array::from_fn(|j| number(table, 4 + 6 * i + j));
         Judged { five, rows: (0..number(table, 0) as usize).map(row).collect(), kept: number(table, 1) }
+    }
+
+    /// The same with the rows of every message that passes checks 1 to 9, since 11 and 12 leave no table; none of any other.
+    pub fn read(&mut self, message: &[u8]) -> Option<Judged> {
+        let judged = self.judge(message);
+        match judged.five[0] {
+            0 => Some(judged),
+            11 | 12 => {
+                let rows = page::rows(self.show(false, false, message))?;
+                let kept = rows.iter().filter(|row| row[5] == 0).count() as u16;
+                Some(Judged { rows, kept, ..judged })
+            }
+            _ => None,
+        }
+    }
+
+    /// Whether messages of a type bear a TEID; found by judging a header without one. Nothing of a type that is not listed.
+    pub fn bears_teid(&mut self, typ: u8) -> Option<bool> {
+        match self.judge(&[0x40, typ, 0, 4, 0, 0, 0, 0]).five[0] {
+            7 => None,
+            code => Some(code == 8),
+        }
     }
 
     /// The masked copy over `copy`, which is as long as the message; or the five numbers of the refusal.
@@ -87,10 +117,19 @@ impl Library {
 
     /// An element's name.
     pub fn name(&self, typ: u8) -> String {
-        let mut name = [0u8; 64];
-        // SAFETY: as above.
-        let n = unsafe { wok_name(0, typ, name.as_mut_ptr(), name.len()) };
-        String::from_utf8_lossy(&name[..n.min(name.len())]).into_owned()
+        named(0, typ)
+    }
+
+    /// An element's pair and name.
+    pub fn pair(&self, typ: u8, instance: u8) -> String {
+        match self.name(typ).as_str() {
+            "not named" => format!("{typ}/{instance}"),
+            name => format!("{typ}/{instance} {name}"),
+        }
+    }
+
+    pub fn message_name(&self, typ: u8) -> String {
+        named(1, typ)
     }
 
     /// How many octets of a value, from its end, are covered; found by asking the masker about a copy with other octets there.

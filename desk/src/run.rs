@@ -1,13 +1,15 @@
-//! The commands. Status: 0 accepted, masked or cleaned, 1 refused, 2 bad use or a file that cannot be read or written.
+//! The commands. Status: 0 accepted or made, 1 refused, 2 bad use or a file that cannot be read or written.
 
 use crate::args::{self, Args, Command, Form, Instead};
+use crate::build::{self, Refused};
 use crate::capture::{self, Capture, Message};
 use crate::clean::{self, Unchanged};
+use crate::edit;
 use crate::forms::{self, Origin, View};
 use crate::input::{self, Content};
 use crate::library::Library;
 use crate::packet;
-use std::ffi::OsString;
+use std::ffi::{OsStr, OsString};
 use std::io::{IsTerminal, Write};
 use std::time::Instant;
 
@@ -84,19 +86,27 @@ impl Job {
             if self.args.out.as_ref().is_some_and(|o| same_file(o, &file)) {
                 return self.fail(format!("{name} is read, and would be written over: give -o another name"));
             }
-            match input::load(&file, self.args.port) {
-                Err(why) => self.fail(format!("{name}: {why}")),
-                Ok(Content::Messages(messages)) => self.messages(&name, &messages),
-                Ok(Content::Capture(capture)) => self.capture(&name, &capture),
-            }
-            if let Some(sentence) = std::mem::take(&mut self.unchanged).sentence() {
-                say(format!("{name}: {sentence}"));
+            if self.args.command == Command::Build {
+                self.build(&name, &file);
+            } else {
+                self.load(&name, &file);
             }
         }
     }
 
+    fn load(&mut self, name: &str, file: &OsStr) {
+        match input::load(file, self.args.port) {
+            Err(why) => self.fail(format!("{name}: {why}")),
+            Ok(Content::Messages(messages)) => self.messages(name, &messages),
+            Ok(Content::Capture(capture)) => self.capture(name, &capture),
+        }
+        if let Some(sentence) = std::mem::take(&mut self.unchanged).sentence() {
+            say(format!("{name}: {sentence}"));
+        }
+    }
+
     fn finish(self) -> u8 {
-        if self.args.command.copies() && self.out.is_empty() {
+        if !self.args.command.lists() && self.out.is_empty() {
             return self.status;
         }
         write_out(&self.out, self.args.out.as_ref(), self.status)
@@ -119,13 +129,18 @@ impl Job {
         }
     }
 
+    fn too_many(&mut self, name: &str, count: usize) {
+        let hex = if self.args.command.copies() { "--hex, or " } else { "" };
+        self.fail(format!("{name} has {count} messages: give {hex}--message N"));
+    }
+
     fn messages(&mut self, name: &str, messages: &[Vec<u8>]) {
         let many = (messages.len() > 1 && self.args.message.is_none()) || self.args.files.len() > 1;
         if !self.there(name, messages.len()) {
             return;
         }
-        if many && self.args.command.copies() && !self.args.hex {
-            return self.fail(format!("{name} has {} messages: give --hex, or --message N", messages.len()));
+        if many && !self.args.command.lists() && !self.args.hex {
+            return self.too_many(name, messages.len());
         }
         for (number, message) in self.wanted(messages) {
             let heading = many.then(|| format!("{name}: message {number} of {}\n", messages.len()));
@@ -135,7 +150,7 @@ impl Job {
 
     /// One message, whatever it came in.
     fn message(&mut self, origin: &Origin, heading: Option<String>, message: &[u8]) {
-        let plain = self.args.form == Form::Page && !self.args.command.copies();
+        let plain = self.args.form == Form::Page && self.args.command.lists();
         if self.shown > 0 && plain {
             self.out.push(b'\n');
         }
@@ -153,6 +168,9 @@ impl Job {
             }
             Command::Show => self.show(origin, message),
             Command::Mask | Command::Clean => self.copy(origin, message),
+            Command::Edit => self.edit(origin, message),
+            // it reads texts
+            Command::Build => {}
         }
     }
 
@@ -207,7 +225,13 @@ impl Job {
     }
 
     fn copy(&mut self, origin: &Origin, message: &[u8]) {
-        let Some(copy) = self.copied(message) else { return self.left_out(origin, message) };
+        match self.copied(message) {
+            Some(copy) => self.put(copy),
+            None => self.left_out(origin, message),
+        }
+    }
+
+    fn put(&mut self, copy: Vec<u8>) {
         if self.args.hex {
             // a blank line between copies, and none for a message that has no copy
             if !self.out.is_empty() {
@@ -218,6 +242,29 @@ impl Job {
             self.fail("raw octets do not go to a terminal: give -o OUT or --hex");
         } else {
             self.out.extend(copy);
+        }
+    }
+
+    fn edit(&mut self, origin: &Origin, message: &[u8]) {
+        match edit::text(&mut self.library, self.args.right, origin.kind, message) {
+            Some(text) => self.out.extend(text.bytes()),
+            None => self.left_out(origin, message),
+        }
+    }
+
+    /// The message of a text; or what is wrong with its lines.
+    fn build(&mut self, name: &str, file: &OsStr) {
+        let text = match input::text(file) {
+            Ok(text) => text,
+            Err(why) => return self.fail(format!("{name}: {why}")),
+        };
+        match build::message(&text) {
+            Ok(message) => self.put(message),
+            Err(Refused::Line(f)) => self.fail(format!("{name}: line {}: {}", f.line, f.why)),
+            Err(Refused::Message(faults)) => {
+                faults.iter().for_each(|f| say(format!("{name}: line {}: {}", f.line, f.why)));
+                self.refused();
+            }
         }
     }
 
@@ -246,6 +293,9 @@ impl Job {
         }
         if !self.there(name, count) {
             return;
+        }
+        if self.args.command == Command::Edit && count > 1 && self.args.message.is_none() {
+            return self.too_many(name, count);
         }
         if self.args.command.copies() && !self.args.hex {
             return self.copy_capture(name, capture);

@@ -14,7 +14,7 @@ impl Rules {
         order: &Order,
         kind: u32,
         message: &[u8],
-        lent: impl FnOnce(&Walk) -> u16,
+        lent: impl FnOnce(&Walk) -> u32,
     ) -> Result<Vec<Row>, Verdict> {
         let header = Header::new(self, kind, message);
         let mut faults = header.faults;
@@ -55,8 +55,8 @@ impl Rules {
 }
 
 /// The bit of a check, if it applies.
-pub fn fault(check: Check, applies: bool) -> u16 {
-    u16::from(applies) << check as u16
+pub fn fault(check: Check, applies: bool) -> u32 {
+    u32::from(applies) << check as u32
 }
 
 /// What kind and header say.
@@ -65,7 +65,7 @@ pub struct Header<'r> {
     listed: Option<&'r Message>,
     /// Where the first element begins.
     pub body: usize,
-    faults: u16,
+    faults: u32,
 }
 
 impl<'r> Header<'r> {

@@ -7,7 +7,7 @@ mod types;
 use std::cmp::Ordering;
 use std::sync::LazyLock;
 
-use crate::rules::{Bits, Check, Checks, Lookups, Order, Rules, Sizes, CODES};
+use crate::rules::{Bits, Builds, Check, Checks, Lookups, Order, Rules, Sizes, CODES};
 
 pub static DOCUMENT: LazyLock<Rules> = LazyLock::new(|| Rules {
     kinds: 1..=3,
@@ -22,6 +22,12 @@ pub static DOCUMENT: LazyLock<Rules> = LazyLock::new(|| Rules {
     sizes: sizes(),
     checks: checks(),
     cleaned: [true, false, false, false],
+    builds: Builds {
+        sequence: 16_777_215,
+        typ: 255,
+        inst: 15,
+        standing: 0,
+    },
     lookups: Lookups {
         parent: 0,
         standing: 0,
@@ -63,6 +69,7 @@ fn checks() -> Checks {
         judge: Order::new(&[&framing[..], &[TableRoom, Short, Missing]].concat()),
         mask: Order::new(&[&framing[..], &[CopyRoom]].concat()),
         clean: Order::new(&[&framing[..], &[Short, Missing, CopyRoom]].concat()),
+        build: Order::new(&[Kind, Type, Table, Room, Built]),
         causes,
     }
 }

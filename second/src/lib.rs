@@ -1,10 +1,11 @@
-//! Independent second program for the GTPv2-C judge, masker and cleaner.
+//! Independent second program for the GTPv2-C judge, masker, cleaner and builder.
 //!
 //! It is written from the document alone and serves as a comparison, for
 //! correctness and for speed. `rules` is the shape of the rules and `document`
 //! their figures; the other modules follow the document's sections, as methods
 //! of `Rules`. The functions here go by the document's own figures.
 
+mod build;
 mod checks;
 mod clean;
 mod document;
@@ -22,6 +23,7 @@ mod table;
 mod verdict;
 pub mod walk;
 
+pub use build::Head;
 pub use document::DOCUMENT;
 pub use rules::Rules;
 pub use verdict::{Answer, Verdict};
@@ -41,6 +43,11 @@ pub fn clean(kind: u32, message: &[u8], clean: &mut [u8]) -> Answer {
     DOCUMENT.clean(kind, message, clean)
 }
 
+/// Writes the message of a table and a buffer of values.
+pub fn build(head: Head, table: &[u16], values: &[u8], room: &mut [u8]) -> Answer {
+    DOCUMENT.build(head, table, values, room)
+}
+
 /// The judge for the C receiver.
 pub fn judge_octets(kind: u32, message: &[u8], table: &mut [u8], five: &mut [u8]) -> u16 {
     DOCUMENT.judge_octets(kind, message, table, five)
@@ -54,6 +61,17 @@ pub fn mask_octets(kind: u32, message: &[u8], copy: &mut [u8], five: &mut [u8]) 
 /// The cleaner for the C receiver.
 pub fn clean_octets(kind: u32, message: &[u8], clean: &mut [u8], answer: &mut [u8]) -> u16 {
     DOCUMENT.clean_octets(kind, message, clean, answer)
+}
+
+/// The builder for the C receiver.
+pub fn build_octets(
+    head: Head,
+    table: &[u8],
+    values: &[u8],
+    room: &mut [u8],
+    answer: &mut [u8],
+) -> u16 {
+    DOCUMENT.build_octets(head, table, values, room, answer)
 }
 
 /// The plain lookup; the empty part where there is none.

@@ -7,17 +7,24 @@
 //! desk ROW RIGHT MESSAGE COPY TABLE
 //! ```
 //!
-//! with blanks between the fields. TYPE, INSTANCE and ROW are decimal, RIGHT is
-//! `1` for yes and `0` for no, MESSAGE and COPY are hex octets, TABLE is decimal
-//! numbers with commas between them; `-` stands for an empty one of these three.
+//! and what a builder is given is
+//!
+//! ```text
+//! build KIND TYPE TEID SEQUENCE TABLE VALUES
+//! ```
+//!
+//! with blanks between the fields. RIGHT is `1` for yes and `0` for no, MESSAGE,
+//! COPY and VALUES are hex octets, TABLE is decimal numbers with commas between
+//! them; `-` stands for an empty one of these four. The others are decimal.
 //! The answer to a lookup is `1 HEX` for a row's part, which may be empty, and
 //! `0 ` where there is none. Hex is written with capitals and without blanks.
 
 use std::fmt::Write;
 use std::str::FromStr;
 
-use crate::generate::{Ask, Case, Lookup};
+use crate::generate::{Ask, Build, Case, Lookup};
 use crate::rules::Rules;
+use crate::Head;
 
 const EMPTY: &str = "-";
 
@@ -49,6 +56,17 @@ pub fn octets(text: &str) -> Result<Vec<u8>, String> {
 
 pub fn case_line(case: &Case) -> String {
     format!("{} {}", case.kind, hex_field(&case.message))
+}
+
+pub fn build_line(build: &Build) -> String {
+    let Head {
+        kind,
+        typ,
+        teid,
+        sequence,
+    } = build.head;
+    let (table, values) = (table_field(&build.table), hex_field(&build.values));
+    format!("build {kind} {typ} {teid} {sequence} {table} {values}")
 }
 
 pub fn lookup_line(lookup: &Lookup) -> String {

@@ -8,13 +8,13 @@ use crate::table::COLUMNS;
 
 /// One row as it stands in a lent table.
 #[derive(Clone, Copy)]
-struct Entry {
-    parent: u16,
-    typ: u16,
-    inst: u16,
-    place: u16,
-    length: u16,
-    standing: u16,
+pub struct Entry {
+    pub parent: u16,
+    pub typ: u16,
+    pub inst: u16,
+    pub place: u16,
+    pub length: u16,
+    pub standing: u16,
 }
 
 impl Entry {
@@ -29,7 +29,8 @@ impl Entry {
         }
     }
 
-    fn value<'a>(&self, buffer: &'a [u8]) -> Option<&'a [u8]> {
+    /// The part of the buffer where its value stands, if it lies there.
+    pub fn value<'a>(&self, buffer: &'a [u8]) -> Option<&'a [u8]> {
         let place = usize::from(self.place);
         buffer.get(place..place + usize::from(self.length))
     }
@@ -37,13 +38,13 @@ impl Entry {
 
 impl Rules {
     /// How many rows a lent table has, or none if it is shorter than it says.
-    fn count(&self, table: &[u16]) -> Option<usize> {
+    pub(crate) fn count(&self, table: &[u16]) -> Option<usize> {
         let header = table.get(..self.sizes.table_header)?;
         let rows = usize::from(*header.first()?);
         (table.len() >= self.used(rows)).then_some(rows)
     }
 
-    fn entry(&self, table: &[u16], row: usize) -> Option<Entry> {
+    pub(crate) fn entry(&self, table: &[u16], row: usize) -> Option<Entry> {
         table.get(self.used(row)..)?.first_chunk().map(Entry::of)
     }
 

@@ -1,5 +1,6 @@
 //! The forms for the C receiver: numbers as octets, two each, high octet first.
 
+use crate::build::Head;
 use crate::rules::Rules;
 use crate::verdict::{Answer, Verdict};
 
@@ -42,6 +43,22 @@ impl Rules {
         answer: &mut [u8],
     ) -> u16 {
         self.put_answer(self.clean(kind, message, clean), answer)
+    }
+
+    /// The builder with its table and its six numbers as octets; answers the
+    /// code. An odd last octet of the table is not read.
+    pub fn build_octets(
+        &self,
+        head: Head,
+        table: &[u8],
+        values: &[u8],
+        room: &mut [u8],
+        answer: &mut [u8],
+    ) -> u16 {
+        let (numbers, _) = table.as_chunks();
+        let numbers = numbers.iter().map(|&number| u16::from_be_bytes(number));
+        let table = numbers.collect::<Vec<_>>();
+        self.put_answer(self.build(head, &table, values, room), answer)
     }
 
     /// Writes the five numbers where there is room for all of them.

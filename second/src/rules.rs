@@ -20,6 +20,7 @@ pub struct Rules {
     /// Does a cleaned copy have the elements of that standing? The others are
     /// set aside.
     pub cleaned: [bool; STANDINGS],
+    pub builds: Builds,
     pub lookups: Lookups,
 }
 
@@ -156,9 +157,12 @@ pub enum Check {
     Short = 11,
     Missing = 12,
     CopyRoom = 13,
+    Table = 14,
+    Room = 15,
+    Built = 16,
 }
 
-pub const CODES: usize = 14;
+pub const CODES: usize = 17;
 
 /// Which checks are made, in their order, and the causes that they give.
 #[derive(Debug, Clone, PartialEq, Eq)]
@@ -166,6 +170,7 @@ pub struct Checks {
     pub judge: Order,
     pub mask: Order,
     pub clean: Order,
+    pub build: Order,
     /// The reply cause by code; code 0 is acceptance.
     pub causes: [u16; CODES],
 }
@@ -175,8 +180,8 @@ pub struct Checks {
 pub struct Order {
     checks: Vec<Check>,
     /// The same as bits, and those of them before the walk's first.
-    all: u16,
-    before_the_walk: u16,
+    all: u32,
+    before_the_walk: u32,
 }
 
 impl Order {
@@ -184,7 +189,7 @@ impl Order {
         let bits = |checks: &[Check]| {
             checks
                 .iter()
-                .fold(0, |bits, &check| bits | 1 << check as u16)
+                .fold(0, |bits, &check| bits | 1 << check as u32)
         };
         let walk = checks.iter().position(|check| *check == Check::Framing);
         Self {
@@ -199,22 +204,32 @@ impl Order {
     }
 
     pub fn has(&self, check: Check) -> bool {
-        self.all >> check as u16 & 1 != 0
+        self.all >> check as u32 & 1 != 0
     }
 
     /// The first check with a bit among these.
-    pub fn first(&self, faults: u16) -> Option<Check> {
+    pub fn first(&self, faults: u32) -> Option<Check> {
         if faults == 0 {
             return None;
         }
         let mut checks = self.checks.iter().copied();
-        checks.find(|&check| faults >> check as u16 & 1 != 0)
+        checks.find(|&check| faults >> check as u32 & 1 != 0)
     }
 
     /// The same among the checks that come before any element is looked at.
-    pub fn first_before_the_walk(&self, faults: u16) -> Option<Check> {
+    pub fn first_before_the_walk(&self, faults: u32) -> Option<Check> {
         self.first(faults & self.before_the_walk)
     }
+}
+
+/// What the builder takes: the largest sequence number, the largest type and
+/// instance of a row, and its standing.
+#[derive(Debug, Clone, PartialEq, Eq)]
+pub struct Builds {
+    pub sequence: u32,
+    pub typ: u16,
+    pub inst: u16,
+    pub standing: u16,
 }
 
 /// What the lookups want of a row and of what is lent.

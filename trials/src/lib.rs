@@ -1,6 +1,7 @@
 //! The proved library as Rust sees it: its C exports behind safe functions.
 
-use second::generate::{Buffers, Case};
+use second::generate::{Buffers, Build, Case, Rooms};
+use second::Head;
 
 mod exports {
     extern "C" {
@@ -28,6 +29,20 @@ mod exports {
             message_len: usize,
             clean: *mut u8,
             clean_len: usize,
+            answer: *mut u8,
+            answer_len: usize,
+        ) -> u16;
+        pub fn wok_build(
+            kind: u32,
+            typ: u32,
+            teid: u32,
+            sequence: u32,
+            table: *const u8,
+            table_len: usize,
+            values: *const u8,
+            values_len: usize,
+            room: *mut u8,
+            room_len: usize,
             answer: *mut u8,
             answer_len: usize,
         ) -> u16;
@@ -82,6 +97,27 @@ pub fn clean(kind: u32, message: &[u8], clean: &mut [u8], answer: &mut [u8]) -> 
     }
 }
 
+/// The builder on octets: the code is the result. It asks nothing of its caller.
+pub fn build(head: Head, table: &[u8], values: &[u8], room: &mut [u8], answer: &mut [u8]) -> u16 {
+    // SAFETY: as above.
+    unsafe {
+        exports::wok_build(
+            head.kind,
+            head.typ,
+            head.teid,
+            head.sequence,
+            table.as_ptr(),
+            table.len(),
+            values.as_ptr(),
+            values.len(),
+            room.as_mut_ptr(),
+            room.len(),
+            answer.as_mut_ptr(),
+            answer.len(),
+        )
+    }
+}
+
 /// Octets that show whether they were written over.
 fn filled(length: usize, seed: usize) -> Vec<u8> {
     let octet = |at: usize| (at.wrapping_mul(31).wrapping_add(seed.wrapping_mul(97)) % 251) as u8 | 1;
@@ -90,6 +126,9 @@ fn filled(length: usize, seed: usize) -> Vec<u8> {
 
 /// One of the functions, of the library or of the second program: kind, message, table or copy, numbers answered.
 pub type Call = fn(u32, &[u8], &mut [u8], &mut [u8]) -> u16;
+
+/// The builder, of either: head, table, values, room, answer.
+pub type BuildCall = fn(Head, &[u8], &[u8], &mut [u8], &mut [u8]) -> u16;
 
 /// What differs between the two programs on one message with these buffers, if anything does.
 pub fn difference(case: &Case, lent: Buffers) -> Option<String> {
@@ -112,4 +151,15 @@ fn both(case: &Case, [length, numbers]: [usize; 2], calls: [Call; 2]) -> Option<
         (call(case.kind, &case.message, &mut lent, &mut answered), lent, answered)
     });
     (ours != theirs).then_some([ours.0, theirs.0])
+}
+
+/// What differs between the two programs in what they build with these lengths, if anything does.
+pub fn build_difference(what: &Build, lent: Rooms) -> Option<String> {
+    let table = what.table_octets(lent.table);
+    let calls: [BuildCall; 2] = [build, second::build_octets];
+    let [ours, theirs] = calls.map(|build| {
+        let (mut room, mut answer) = (filled(lent.room, lent.answer), filled(lent.answer, lent.room));
+        (build(what.head, &table, &what.values, &mut room, &mut answer), room, answer)
+    });
+    (ours != theirs).then(|| format!("build: with {lent:?}: {} against {}", ours.0, theirs.0))
 }

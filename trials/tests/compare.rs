@@ -1,7 +1,7 @@
 //! The proved library against the second program: every answer and every lent octet, with buffers around each boundary.
 
-use second::generate::{figures, Buffers, Case, Generator};
-use trials::difference;
+use second::generate::{Buffers, Build, builds, Case, figures, Generator};
+use trials::{build_difference, difference};
 
 /// How often each code was met: of the judge with the largest table, of the cleaner with the buffers of the trials.
 #[derive(Debug, Default)]
@@ -35,6 +35,36 @@ fn every_figure() {
         assert!(code == 10 || code == 13 || codes.judge[code] >= 10, "{codes:?}");
         assert!(code == 10 || codes.clean[code] >= 10, "{codes:?}");
     }
+}
+
+/// Both trials of each build, and how often each code was met.
+fn compare_builds(builds: impl IntoIterator<Item = Build>) -> [usize; 17] {
+    let mut codes = [0; 17];
+    for (seed, build) in builds.into_iter().enumerate() {
+        for lent in build.lent(seed as u64) {
+            if let Some(what) = build_difference(&build, lent) {
+                panic!("{what}\n{}", second::lines::build_line(&build));
+            }
+            let (table, mut room) = (build.table_octets(lent.table), vec![0; lent.room]);
+            codes[usize::from(trials::build(build.head, &table, &build.values, &mut room, &mut []))] += 1;
+        }
+    }
+    codes
+}
+
+/// The builds of which second/tests/all/build.rs shows that they meet every reason to refuse, with the same lengths.
+#[test]
+fn every_build() {
+    let codes = compare_builds(builds());
+    for code in [0, 1, 7, 14, 15, 16] {
+        assert!(codes[code] >= 100, "{codes:?}");
+    }
+}
+
+#[test]
+fn ten_thousand_builds_of_the_mix() {
+    let mut generator = Generator::new(2030);
+    compare_builds((0..10_000).map(|_| generator.build()));
 }
 
 #[test]

@@ -28,11 +28,13 @@ use Rattle.rules.proofs.Rows.{Octets, octets-drop, Every, every-at, Fits, all-f
 use Rattle.rules.specs.Emitting.{within, sizes, emitted}
 use Rattle.rules.specs.Cleaned.{pieces, cleaned, cleanChecks, cleanVerdict, cleanLength, cleanCopy}
 use Rattle.emitted.proofs.Cleaning.{sizes-fit}
-use Rattle.emitting.specs.Emits.{number, sizeIn, sizesIn, withinIn, lengthIn, insideIn, HasRows, RowFit, partsIn, putRows, over}
+use Rattle.emitting.specs.Emits.{number, sizesIn, HasRows, RowFit, partsIn, putRows, over}
 use Rattle.cleaning.specs.Cleaning.{Held, Settles, Settled, size, frontOf, copyOf, roomCheck}
 use Rattle.rules.specs.declared.Sent.{Sent}
-use Rattle.cleaning.proofs.Bridge.{number-is, sizes-are, parts-are}
-use Rattle.cleaning.proofs.Fronts.{emitted-size, front-laid}
+use Rattle.cleaning.proofs.Bridge.{number-is, agreeing}
+use Rattle.cleaning.proofs.Fronts.{front-laid}
+use Rattle.emitting.proofs.Bridge.{Agreeing, emitted-size, sizes-are, parts-are, length-low}
+use Rattle.emitted.proofs.Again.{pieces-length}
 
 pub most-rows : (k : ℕ) (m : List ℕ) {rows rows′ : List ℕ} {r : Reading} → Read k m rows r rows′ → r .rows ≤ mostRows
 most-rows k m read = rw (read .answers) (few book k m)
@@ -64,14 +66,17 @@ module _ (k : ℕ) (m : List ℕ) {rows rows′ : List ℕ} {r : Reading} (read 
     ends n l =
         omega (arith, every-at (Fits (0 + length is) (headerLength m + length (drop (headerLength m) m))) is fit n l .ends, length-drop (headerLength m) m, all .0 .has-header)
 
+    agree : Agreeing rows′ m true 0 (pieces m is)
+    agree = agreeing is rows rows′ m scratch-is ends
+
     sizes-is : sizesIn rows′ 0 (r .rows) ≡ sizes (pieces m is)
-    sizes-is = ap (sizesIn rows′ 0) rows-is ∙ sizes-are is rows rows′ m scratch-is ends
+    sizes-is = ap (sizesIn rows′ 0) (rows-is ∙ sym (pieces-length m is)) ∙ sizes-are rows′ m true (pieces m is) agree
 
     size-most : headerLength m + sizesIn rows′ 0 (r .rows) ≤ length m
     size-most = omega (arith, sizes-is, sizes-fit book book-sound k m (body-met book k m is (all .1 .1)), length-drop (headerLength m) m, all .0 .has-header)
 
     parts-is : partsIn rows′ (r .rows) m true 0 (r .rows) ≡ emitted 0 (pieces m is)
-    parts-is = ap (λ (n : ℕ). partsIn rows′ n m true 0 n) rows-is ∙ parts-are is rows rows′ m scratch-is ends
+    parts-is = ap (λ (n : ℕ). partsIn rows′ n m true 0 n) (rows-is ∙ sym (pieces-length m is)) ∙ parts-are rows′ m true (pieces m is) agree
 
     pub parts-size : length (partsIn rows′ (r .rows) m true 0 (r .rows)) ≡ sizesIn rows′ 0 (r .rows)
     parts-size = ap length parts-is ∙ emitted-size 0 (pieces m is) ∙ sym sizes-is
@@ -109,23 +114,6 @@ module _ (k : ℕ) (m : List ℕ) {rows rows′ : List ℕ} {r : Reading} (read 
         (omega (arith, sizes-is, emitted-size 0 (pieces m is)))
         ∙ rw (all .1 .1)
 
-within-most : (rows : List ℕ) (r k j : ℕ) → withinIn rows r j k ≤ sizesIn rows j k
-unfolding withinIn sizesIn
-within-most rows r zero j = zero≤
-within-most rows r (suc k) j = go (ltb (number rows j 0) r) (within-most rows r k (j + 1))
-  where
-    go : (c : Bool) → withinIn rows r (j + 1) k ≤ sizesIn rows (j + 1) k → cond c 0 (sizeIn rows j + withinIn rows r (j + 1) k) ≤ sizeIn rows j + sizesIn rows (j + 1) k
-    go true h = zero≤
-    go false h = omega arith
-
-tail-most : (rows : List ℕ) (d k i : ℕ) → sizesIn rows (i + d) k ≤ sizesIn rows i (d + k)
-unfolding sizesIn
-tail-most rows zero k i = let e : i + 0 ≡ i = add-zero i in let f : 0 + k ≡ k = omega arith in rw (e, f) (omega arith)
-tail-most rows (suc d) k i =
-    let e : i + suc d ≡ i + 1 + d = omega arith in
-    let f : suc d + k ≡ suc (d + k) = omega arith in
-    rw (e, f) (omega (arith, tail-most rows d k (i + 1)))
-
 module _ (k : ℕ) (m : List ℕ) {rows rows′ : List ℕ} {r : Reading} (read : Read k m rows r rows′) (octets : Octets m) (held : rowNumbers * r .rows ≤ length rows) where
   module _ (pass : refuses (first (framingChecks book k m)) ≡ false) where
     abbrev es : List Item
@@ -133,18 +121,6 @@ module _ (k : ℕ) (m : List ℕ) {rows rows′ : List ℕ} {r : Reading} (read 
 
     num : (n c : ℕ) → n < length (all k m read octets held pass .1 .0) → c < rowNumbers → number rows′ n c ≡ getD (row (nth (all k m read octets held pass .1 .0) n)) c 0
     num = number-is es rows rows′ m (scratch-is k m read octets held pass) (ends k m read octets held pass)
-
-    inside-low : (n : ℕ) → n < r .rows → insideIn rows′ n (r .rows) ≤ 4096
-    inside-low n l =
-        let e : n + 1 + (r .rows - (n + 1)) ≡ r .rows = omega arith in
-        let z : 0 + (n + 1) ≡ n + 1 = omega arith in
-        omega (
-          arith,
-          within-most rows′ (n + 1) (r .rows - (n + 1)) (n + 1),
-          rw (z, e) at (tail-most rows′ (n + 1) (r .rows - (n + 1)) 0),
-          size-most k m read octets held pass,
-          all k m read octets held pass .0 .most,
-        )
 
     row-fit : (n : ℕ) → n < r .rows → RowFit rows′ n (r .rows) m true
     row-fit n l =
@@ -156,15 +132,11 @@ module _ (k : ℕ) (m : List ℕ) {rows rows′ : List ℕ} {r : Reading} (read 
         let s = num n 4 h (omega arith) in
         record {
           typ = omega (arith, t, f .typ);
-          len = go (isGroup (number rows′ n 1)) (inside-low n l) (omega (arith, s, q, all k m read octets held pass .0 .most));
+          len = length-low rows′ n (r .rows) l (omega (arith, size-most k m read octets held pass, all k m read octets held pass .0 .most)) (omega (arith, s, q, all k m read octets held pass .0 .most));
           least = λ c. omega (arith, p);
           most = λ c. omega (arith, p, q);
           there = λ c. omega (arith, p, s, q);
         }
-      where
-        go : (c : Bool) → insideIn rows′ n (r .rows) ≤ 4096 → number rows′ n 4 < 65536 → cond c (insideIn rows′ n (r .rows)) (number rows′ n 4) < 65536
-        go true a d = omega arith
-        go false a d = d
 
   pub settles : Settles r rows′ m
   settles c =

@@ -1,26 +1,15 @@
 -- The header copied and put right, and the body after it, are the cleaned copy laid over the buffer. Assumes nothing.
 use mathlib.Core.Path.{_≡_, refl, sym, ap, _∙_}
-use mathlib.Core.Bool.{Bool, true, false, cond}
 use mathlib.Core.List.{List, [], _∷_, _++_, append-assoc}
 use Prim.Native.Nat.{ℕ, zero, suc, _+_, _-_, _*_, _/_, _%_, _≤_, _<_}
 use native.Mathlib.Omega.{arith}
 use lib.ListN.{length, getD, set, take, drop, length-append}
 use lib.Seq.{length-take-le, take-at, drop-at, drop-drop}
-use Rattle.rules.specs.Framing.{octet, elementHeader}
+use Rattle.rules.specs.Framing.{octet}
 use Rattle.rules.specs.Table.{laid}
-use Rattle.rules.specs.Emitting.{Piece, stays, sizeOf, sizes, headOctets, lengthOf, emitted, written}
+use Rattle.rules.specs.Emitting.{written}
 use Rattle.emitting.specs.Emits.{valued, over}
 use Rattle.cleaning.specs.Cleaning.{frontOf}
-
-pub emitted-size : (n : ℕ) (ps : List Piece) → length (emitted n ps) ≡ sizes ps
-unfolding emitted sizes sizeOf
-emitted-size n [] = refl
-emitted-size n (x ∷ ps) = go (stays x) (emitted-size (n + 1) ps)
-  where
-    go : (c : Bool) → length (emitted (n + 1) ps) ≡ sizes ps
-        → length (cond c (headOctets (x .typ) (lengthOf (n + 1) x ps) (x .fourth) ++ (x .value ++ emitted (n + 1) ps)) (emitted (n + 1) ps)) ≡ cond c (elementHeader + length (x .value)) 0 + sizes ps
-    go true e = omega (arith, e, length-append (x .value) (emitted (n + 1) ps))
-    go false e = omega (arith, e)
 
 -- past four octets
 past-front : (j : ℕ) (xs out : List ℕ) (n : ℕ) → length xs ≡ j → drop (j + n) (xs ++ drop j out) ≡ drop (j + n) out

@@ -46,10 +46,10 @@ kin-at {anew} (both {n = n} i j e c d) (suc r) l s =
 
 -- ---- and what is written of them
 
-abbrev nobodys : Piece
+abbrev pub nobodys : Piece
 nobodys = record { parent = 0; typ = 0; fourth = 0; stand = 0; value = [] }
 
-pieces-at : (w : List ℕ) (is : List Item) (r : ℕ) → r < length is → getD (pieces w is) r nobodys ≡ received w (nth is r)
+pub pieces-at : (w : List ℕ) (is : List Item) (r : ℕ) → r < length is → getD (pieces w is) r nobodys ≡ received w (nth is r)
 unfolding pieces
 pieces-at w [] r l = absurd (omega arith)
 pieces-at w (i ∷ is) zero l = refl

@@ -11,3 +11,7 @@ pub mod Cleaning
 pub mod KeptRows
 pub mod Refusals
 pub mod Octets
+pub mod Parsing
+pub mod Building
+pub mod Rebuilding
+pub mod BuiltRows

@@ -12,8 +12,7 @@ use lib.ListN.{length, getD, set, take, drop, length-set, length-append, length-
 use lib.Seq.{sets, sets-eq, paste, paste-zero, paste-suc, getD-drop}
 use Rattle.rules.specs.Types.{groups, isGroup}
 use Rattle.rules.specs.Standing.{kept}
-use Rattle.rules.specs.Emitting.{headOctets}
-use Rattle.emitting.specs.Emits.{Sized, number, sizeIn, sizesIn, withinIn, headed, valued}
+use Rattle.emitting.specs.Emits.{Sized, number, sizeIn, sizesIn, withinIn, over, valued}
 
 -- ---- sums
 
@@ -80,13 +79,12 @@ within-ends {rows} {n} {count} {sum} {j} s l = omega (arith, s .is, within-none 
 
 -- ---- headers and values
 
-pub four-set : (out : List ℕ) (at t n f : ℕ) → at + 4 ≤ length out
-    → set (set (set (set out at t) (at + 1) (n / 256)) (at + 2) (n % 256)) (at + 3) f ≡ headed out at t n f
-four-set out at t n f l =
+pub four-set : (out : List ℕ) (at w x y z : ℕ) → at + 4 ≤ length out → set (set (set (set out at w) (at + 1) x) (at + 2) y) (at + 3) z ≡ over out at (w ∷ x ∷ y ∷ z ∷ [])
+four-set out at w x y z l =
     let a : at + 1 ≡ suc at = omega arith in
     let c : at + 2 ≡ suc (suc at) = omega arith in
     let d : at + 3 ≡ suc (suc (suc at)) = omega arith in
-    rw (a, c, d) (sets-eq (headOctets t n f) out at l ∙ append-assoc (take at out) (headOctets t n f) (drop (at + 4) out))
+    rw (a, c, d) (sets-eq (w ∷ x ∷ y ∷ z ∷ []) out at l ∙ append-assoc (take at out) (w ∷ x ∷ y ∷ z ∷ []) (drop (at + 4) out))
 
 pub record Copying (source : List ℕ) (place len : ℕ) (out : List ℕ) (at : ℕ) (out′ : List ℕ) (j : ℕ) : Type 0 where
   pub most : j ≤ len

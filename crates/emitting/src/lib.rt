@@ -7,14 +7,14 @@ ghost use Rattle.facts.specs.Facts.{facts};
 ghost use Rattle.emitting.specs.Emits.{Wide, HasRow, HasRows, Sized, sizesIn, Summed, insideIn, Heading, headed, Valued, valued, lastIn, HasLast, lengthIn, PutsRow, PutRow, PutsRows, putRows};
 
 // A number of a row, to count with.
-pub(crate) fn wide(x: u16) -> usize
+pub fn wide(x: u16) -> usize
     ensures { λ r. ⌜ Wide x r ⌝ }
 {
     x as usize
 }
 
 // No number over 255 is a type.
-pub(crate) fn is_group(types: &[u8; 64], typ: u16) -> bool
+pub fn is_group(types: &[u8; 64], typ: u16) -> bool
     requires { ⌜ now types ≡ facts ⌝ }
     ensures { λ r. ⌜ r ≡ isGroup typ ⌝ }
 {

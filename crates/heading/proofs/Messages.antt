@@ -5,17 +5,18 @@ use mathlib.Core.List.{List, [], _∷_, map}
 use Prim.Native.Nat.{ℕ, zero, suc, _≤_, _<_}
 use native.Mathlib.Nat.{pos-of-ne-zero}
 use native.Mathlib.Omega.{arith}
-use borrow.Author.Tests.{eq-eqb, ne-eqb, ltb-true, eqb-false, not-true}
+use native.Mathlib.Decide.{decLt}
+use borrow.Author.Tests.{eq-eqb, ne-eqb, ltb-true, lt-ltb, le-ltb, eqb-false, not-true}
 use lib.Dec.{eqb, ltb}
 use lib.ListN.{length, getD, drop, List·getD-map}
 use lib.Seq.{drop-cons}
 use Rattle.rules.specs.Framing.{flagT, headerLength}
-use Rattle.rules.specs.Listings.{Message, noMessage, messages, book, seekMessage, isMessage}
+use Rattle.rules.specs.Listings.{Message, noMessage, messages, book, seekMessage, isMessage, messageOf}
 use Rattle.rules.specs.Sound.{everyLevel, everyMessage, sound}
 use Rattle.rules.proofs.Lines.{and-left, and-right}
 use Rattle.rules.proofs.Header.{Passed}
 use Rattle.rules.proofs.Book.{book-sound}
-use Rattle.heading.specs.Header.{Listed}
+use Rattle.heading.specs.Header.{Listed, HeaderOf}
 
 module _ (xs : List Message) where
   abbrev pub typesOf : List ℕ
@@ -91,3 +92,45 @@ body-level n h =
       some = pos-of-ne-zero (eqb-false v 0 (not-true (eqb v 0) (and-left (not (eqb v 0)) _ e)));
       low = ltb-true v (length (book .levels)) (and-right (not (eqb v 0)) _ e);
     }
+
+-- ---- the header of a type
+
+-- every type is an octet, so no larger number is one
+lowTypes : List Message → Bool
+lowTypes [] = true
+lowTypes (x ∷ xs) = ltb (x .typ) 256 && lowTypes xs
+
+none-high : (xs : List Message) (t : ℕ) → lowTypes xs ≡ true → 255 < t → seekMessage xs t ≡ length xs
+unfolding seekMessage lowTypes
+none-high [] t e h = refl
+none-high (x ∷ xs) t e h =
+    let l = ltb-true (x .typ) 256 (and-left (ltb (x .typ) 256) (lowTypes xs) e) in
+    rw (ne-eqb (x .typ) t (λ w. omega arith), none-high xs t (and-right (ltb (x .typ) 256) (lowTypes xs) e) h)
+
+low-types : lowTypes (book .messages) ≡ true
+unfolding lowTypes book messages
+low-types = refl
+
+pub header-none : (t : ℕ) → length (book .messages) ≤ seekMessage (book .messages) t → HeaderOf t 0
+unfolding isMessage
+header-none t l = record { is = rw (le-ltb (seekMessage (book .messages) t) (length (book .messages)) l); most = omega arith }
+
+pub header-high : (t : ℕ) → 255 < t → HeaderOf t 0
+header-high t h = header-none t (omega (arith, none-high (book .messages) t low-types h))
+
+pub header-at : (t n : ℕ) → n ≡ seekMessage (book .messages) t → n < length (book .messages) → (c : Bool) → getD (teidsOf (book .messages)) n false ≡ c → HeaderOf t (cond c 12 8)
+unfolding isMessage messageOf
+header-at t n e l c f = record { is = rw (← e, lt-ltb n (length (book .messages)) l, ← teid-at (book .messages) n, f); most = go c }
+  where
+    go : (c : Bool) → cond c 12 8 ≤ 12
+    go true = omega arith
+    go false = omega arith
+
+-- so a type that is listed is an octet
+pub listed-octet : (t : ℕ) → isMessage book t ≡ true → t < 256
+unfolding isMessage
+listed-octet t e = go (decLt 255 t)
+  where
+    go : Dec (255 < t) → t < 256
+    go (yes h) = absurd (omega (arith, none-high (book .messages) t low-types h, ltb-true (seekMessage (book .messages) t) (length (book .messages)) e))
+    go (no h) = omega arith

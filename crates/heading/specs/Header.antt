@@ -1,11 +1,11 @@
 -- The parts of contracts over a message's header. Assumes nothing.
 use mathlib.Core.Path.{_≡_}
-use mathlib.Core.Bool.{true}
+use mathlib.Core.Bool.{Bool, true, cond}
 use mathlib.Core.List.{List}
 use Prim.Native.Nat.{ℕ, _≤_, _<_}
 use lib.ListN.{length}
 use Rattle.rules.specs.Framing.{messageType, lengthField, headerLength}
-use Rattle.rules.specs.Listings.{book, seekMessage, isMessage}
+use Rattle.rules.specs.Listings.{Message, book, seekMessage, isMessage, messageOf}
 use Rattle.rules.specs.Taking.{bodyLevel}
 use Rattle.rules.proofs.Rows.{Octets}
 
@@ -45,3 +45,8 @@ pub record Body (m : List ℕ) (r : ℕ) : Type 0 where
   pub some : 0 < r
   pub level : r < length (book .levels)
   pub octets : Octets m
+
+-- the length of the header of the type t, which is 0 for a type that is not listed
+pub record HeaderOf (t r : ℕ) : Type 0 where
+  pub is : r ≡ cond (isMessage book t) (cond (messageOf book t .teid) 12 8) 0
+  pub most : r ≤ 12

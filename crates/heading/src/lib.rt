@@ -9,7 +9,7 @@ ghost use Rattle.rules.specs.Framing.{version, flagP, flagT};
 ghost use Rattle.rules.specs.Types.{among};
 ghost use Rattle.rules.specs.Listings.{book, noMessage};
 ghost use Rattle.rules.specs.Verdicts.{first, openingChecks};
-ghost use Rattle.heading.specs.Header.{Opens, Sought, Typed, Field, Start, Listed, Body};
+ghost use Rattle.heading.specs.Header.{Opens, Sought, Typed, Field, Start, Listed, Body, HeaderOf};
 use rules::Verdict;
 
 // The message types, which of them have T = 1, and the level of each body.
@@ -19,7 +19,8 @@ const TEIDS: [bool; 9] = [false, false, true, true, true, true, true, true, true
 
 const BODIES: [u8; 9] = [1, 1, 2, 5, 6, 9, 12, 13, 14];
 
-pub(crate) fn known(kind: u32) -> bool
+// Is it one of the kinds?
+pub fn known(kind: u32) -> bool
     ensures { λ r. ⌜ r ≡ among kind (book .kinds) ⌝ }
 {
     if kind == 1 {
@@ -103,6 +104,23 @@ pub fn body(head: &[u8]) -> u8
 {
     let n = seek(head[1]);
     BODIES[n]
+}
+
+// The length of the header of messages of a type, or 0 if the type is not listed.
+pub fn header_of(typ: u32) -> usize
+    ensures { λ r. ⌜ HeaderOf typ r ⌝ }
+{
+    if 255 < typ {
+        return 0;
+    }
+    let n = seek(typ as u8);
+    if 9 <= n {
+        return 0;
+    }
+    if TEIDS[n] {
+        return 12;
+    }
+    8
 }
 
 // Checks 1 to 8, in order, of a message of `n` octets that begins with `head`.

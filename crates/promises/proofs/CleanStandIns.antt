@@ -44,7 +44,7 @@ unfolding below
 given-inner = record { kind = refl; octets = refl; numbers = refl }
 
 -- numbers below 256 are octets
-below-octets : (m : List ℕ) → below octetBound m ≡ true → Octets m
+pub below-octets : (m : List ℕ) → below octetBound m ≡ true → Octets m
 unfolding below
 below-octets [] e j = omega arith
 below-octets (x ∷ xs) e zero = ltb-true x 256 (and-left (ltb x 256) (below 256 xs) e)

@@ -131,11 +131,11 @@ same-header k m ok (suc (suc (suc (suc j)))) l u v =
 
 -- ---- the contract
 
-not-refused : (v : Verdict) → v ≡ accepted → refuses v ≡ false
+pub not-refused : (v : Verdict) → v ≡ accepted → refuses v ≡ false
 not-refused v e = rw e
 
 -- what the judge does not refuse it accepts, and 13 is not one of its numbers
-judge-accepted : (k : ℕ) (m : List ℕ) (room : ℕ) → refuses (judgeVerdict book k m room) ≡ false → judgeVerdict book k m room ≡ accepted
+pub judge-accepted : (k : ℕ) (m : List ℕ) (room : ℕ) → refuses (judgeVerdict book k m room) ≡ false → judgeVerdict book k m room ≡ accepted
 judge-accepted k m room e = first-pass (judgeChecks book k m room) (all-pass (judgeChecks book k m room) .0 e)
 
 never-13 : (k : ℕ) (m : List ℕ) (room : ℕ) → judgeVerdict book k m room ≡ refused 13 0 → ⊥

@@ -1,16 +1,26 @@
 -- `IsTable` holds of the examples' own tables, so it is not empty: of D, F with its repeat, G with its group, K with its unexpected group. And J, which is
 -- cut inside a group, has no table at all, and is cut at 16. Assumes nothing.
-use mathlib.Core.Path.{_≡_, refl, sym, ap}
+use mathlib.Core.Path.{_≡_, refl, sym, ap, _∙_}
 use mathlib.Core.List.{List, [], _++_}
-use Prim.Native.Nat.{ℕ}
-use lib.ListN.{drop}
+use Prim.Native.Nat.{ℕ, zero, suc, _-_, _≤_, _<_}
+use native.Mathlib.Omega.{arith}
+use lib.ListN.{length, take, drop}
+use Rattle.rules.specs.Framing.{octet, flagT, messageType, headerLength}
 use Rattle.rules.specs.Listings.{book}
+use Rattle.rules.specs.Values.{rowPlace}
+use Rattle.rules.specs.Built.{teidOf, sequenceOf, ZeroBits}
+use Rattle.rules.specs.Answers.{Judged, Builds}
+use Rattle.rules.specs.declared.Verdict.{Verdict}
+use Rattle.rules.specs.declared.Sent.{Sent}
+use Rattle.rules.proofs.Rows.{Octets}
 use Rattle.rules.specs.Verdicts.{accepted}
 use Rattle.rules.specs.Examples.{judging, Outcome, examples, sevens, messageD, headF, firstF, secondF, messageG, messageK, head, line}
 use Rattle.tables.specs.IsTable.{IsTable}
 use Rattle.verdicts.specs.IsCut.{IsCut}
+use Rattle.promises.specs.StandIns.{below}
 use Rattle.promises.proofs.Examples.{example, asked, messageJ}
-use Rattle.promises.proofs.Main.{judged-table, nine-exactly, nine-at-exactly}
+use Rattle.promises.proofs.CleanStandIns.{below-octets}
+use Rattle.promises.proofs.Main.{judged-table, nine-exactly, nine-at-exactly, comes-back}
 
 -- the table that an accepted message leaves in the sevens
 tabled : (k : ℕ) (m left : List ℕ) → asked judging k m ≡ record { verdict = accepted; left = left } → IsTable book k m left
@@ -40,3 +50,30 @@ none-j = nine-exactly 1 messageJ 23 .0 (ap (λ (x : Outcome). x .verdict .code) 
 pub cut-j : (t : List ℕ) × IsCut book 1 messageJ t 16
 unfolding examples
 cut-j = nine-at-exactly 1 messageJ 23 16 .0 (ap (λ (x : Outcome). x .verdict) (example 11)) .1
+
+-- ---- `ZeroBits` holds of G, so that it does come back
+
+abbrev judgedG : List ℕ
+judgedG = head 2 2 4 16 (line 0 93 0 16 5 0 (line 1 73 0 20 1 0 [])) ++ drop 16 sevens
+
+octets-g : Octets messageG
+unfolding below
+octets-g = below-octets messageG refl
+
+bits-g : ZeroBits messageG judgedG
+unfolding headerLength flagT
+bits-g = record { flags = refl; spare = refl; elements = each }
+  where
+    each : (r : ℕ) → r < 2 → octet messageG (rowPlace judgedG r - 1) < 16
+    each zero l = omega arith
+    each (suc zero) l = omega arith
+    each (suc (suc r)) l = absurd (omega arith)
+
+pub g-comes-back : {v : Verdict} {t : List ℕ} → Judged 1 messageG sevens v t → {lent : List ℕ} {s : Sent} {left : List ℕ} → Builds 1 66 1 2 t messageG lent s left
+    → 21 ≤ length lent → (s .verdict ≡ accepted) × (s .length ≡ 21) × (take (s .length) left ≡ messageG)
+unfolding examples messageType teidOf sequenceOf headerLength flagT
+g-comes-back {v} {t} j {lent} {s} {left} c l =
+    let e = example 8 in
+    let a : v ≡ accepted = j .answers ∙ ap (λ (x : Outcome). x .verdict) e in
+    let is : t ≡ judgedG = j .table-left ∙ ap (λ (x : Outcome). x .left) e in
+    comes-back j a (rw is refl) octets-g (rw is bits-g) c l

@@ -18,17 +18,18 @@ use Rattle.rules.specs.Standing.{Item}
 use Rattle.rules.specs.Taking.{whole, taken, itemsIn}
 use Rattle.rules.specs.Table.{tableOf, laid}
 use Rattle.rules.specs.Verdicts.{accepted, refuses, items, judgeVerdict, judgeNumbers}
-use Rattle.rules.specs.Octets.{octetsOf, five, fiveLaid, six, answerLaid, tableRoom, judgeOctets}
+use Rattle.rules.specs.Octets.{numberOf, numbersIn, octetsOf, five, fiveLaid, six, answerLaid, tableRoom, judgeOctets}
 use Rattle.rules.specs.Answers.{JudgedOctets}
 use Rattle.rules.specs.declared.Verdict.{Verdict}
 use Rattle.rules.proofs.Book.{book-sound}
+use Rattle.rules.proofs.Numbers.{numbers-length}
 use Rattle.rules.proofs.Header.{Passed, framed}
 use Rattle.tables.proofs.Rowed.{Begins, table-length, more-begins, count-of}
 use Rattle.verdicts.proofs.Laying.{laid-length, laid-past, judge-framed, enough-room}
 use Rattle.verdicts.proofs.Acceptance.{OneOf, judge-codes}
 use Rattle.verdicts.proofs.Accepting.{accepts, accept}
 use Rattle.verdicts.proofs.Completeness.{complete}
-use Rattle.promises.specs.Exports.{numberOf, numbersIn, LeavesOctets}
+use Rattle.promises.specs.Exports.{LeavesOctets}
 
 pub read-numbers : (xs ys : List ℕ) → numbersIn (octetsOf xs ++ ys) ≡ xs ++ numbersIn ys
 unfolding numbersIn octetsOf
@@ -39,12 +40,6 @@ octets-length : (xs : List ℕ) → length (octetsOf xs) ≡ 2 * length xs
 unfolding octetsOf
 octets-length [] = refl
 octets-length (x ∷ xs) = omega (arith, octets-length xs)
-
-numbers-length : (xs : List ℕ) → length (numbersIn xs) ≡ length xs / 2
-unfolding numbersIn
-numbers-length [] = refl
-numbers-length (x ∷ []) = refl
-numbers-length (x ∷ y ∷ xs) = omega (arith, numbers-length xs)
 
 -- a verdict with code 0 refuses nothing
 pub zero-accepts : (v : Verdict) → v .code ≡ 0 → refuses v ≡ false

@@ -6,6 +6,7 @@ pub mod Agreeing
 pub mod Copies
 pub mod Commuting
 pub mod Cleaned
+pub mod Built
 pub mod Exports
 pub mod Contracts
 pub mod Lookups
@@ -13,5 +14,6 @@ pub mod Unique
 pub mod Examples
 pub mod StandIns
 pub mod CleanStandIns
+pub mod BuildStandIns
 pub mod Main
 pub mod ExampleTables

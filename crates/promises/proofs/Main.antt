@@ -1,4 +1,4 @@
--- Every statement to the owner, demand by demand, of the judge, the masker, the cleaner, the lookups and the exports by the listings of rule 3.2. Each is proved in the file
+-- Every statement to the owner, demand by demand, of the judge, the masker, the cleaner, the builder, the lookups and the exports by the listings of rule 3.2. Each is proved in the file
 -- that it cites, there, or in the laws below it, of any listings that pass the test `sound`; these do (`book-sound`). Assumes nothing.
 use mathlib.Core.Path.{_≡_, sym, ap, _∙_}
 use mathlib.Core.Logic.{_⊎_, _↔_, _≢_}
@@ -9,7 +9,7 @@ use native.Mathlib.Omega.{arith}
 use lib.ListN.{length, take, drop, getD}
 use denote.Ref.{RefT, now}
 use Rattle.rules.specs.Sizes.{largestMessage, mostRows, headerNumbers, fiveOctets, answerOctets, used}
-use Rattle.rules.specs.Framing.{octet, elementHeader, headerLength}
+use Rattle.rules.specs.Framing.{octet, elementHeader, headerLength, messageType}
 use Rattle.rules.specs.Types.{among}
 use Rattle.rules.specs.Listings.{book, noLine, lists}
 use Rattle.rules.specs.Standing.{Item, kept, unexpected, repeated, short}
@@ -18,14 +18,15 @@ use Rattle.rules.specs.Table.{tableOf, laid}
 use Rattle.rules.specs.Verdicts.{accepted, refused, refusedAt, invalidLength, mandatoryMissing, refuses, first, framingChecks, items, judgeVerdict, maskVerdict, judgeTable, judgeNumbers, maskNumbers}
 use Rattle.rules.specs.Covered.{covered, masked, maskCopy}
 use Rattle.rules.specs.Cleaned.{cleaned, cleanChecks, cleanVerdict, cleanLength, cleanNumbers}
+use Rattle.rules.specs.Built.{teidOf, sequenceOf, ZeroBits, built, buildChecks, buildVerdict, buildLength, buildNumbers}
 use Rattle.rules.specs.Values.{rowType, rowInstance, rowParent, rowPlace, rowStanding, Stands}
-use Rattle.rules.specs.Octets.{five, six, tableRoom}
-use Rattle.rules.specs.Answers.{Judged, Masked, Cleans, Plain, PlainFound, Desk, DeskFound, JudgedOctets, MaskedOctets, CleanedOctets}
+use Rattle.rules.specs.Octets.{numbersIn, five, six, tableRoom}
+use Rattle.rules.specs.Answers.{Judged, Masked, Cleans, Builds, Plain, PlainFound, Desk, DeskFound, JudgedOctets, MaskedOctets, CleanedOctets, BuiltOctets}
 use Rattle.rules.specs.declared.Verdict.{Verdict}
 use Rattle.rules.specs.declared.Sent.{Sent}
 use Rattle.rules.proofs.Book.{book-sound}
 use Rattle.rules.proofs.Checks.{OwnCase}
-use Rattle.rules.proofs.Header.{Passed, clean-case}
+use Rattle.rules.proofs.Header.{Passed, clean-case, build-case}
 use Rattle.rules.proofs.Rows.{Octets, header-least}
 use Rattle.tables.specs.Words.{rows, keptCount, firstRow, numbersUsed, keptAmong, rowStart, rowEnd, KeptGroup, IsLevel, Inside, Faithful}
 use Rattle.tables.specs.Levels.{levelOf}
@@ -40,7 +41,7 @@ use Rattle.verdicts.specs.Conditions.{framingConditions, judgeConditions, maskC
 use Rattle.tables.proofs.Rowed.{Begins}
 use Rattle.verdicts.proofs.Laying.{accepted-table}
 use Rattle.verdicts.proofs.Cases.{judge-words, mask-words, judge-says, mask-says}
-use Rattle.verdicts.proofs.Acceptance.{NoneHolds, OneOf, judge-accepting, mask-accepting, judge-codes, mask-codes, clean-codes}
+use Rattle.verdicts.proofs.Acceptance.{NoneHolds, OneOf, judge-accepting, mask-accepting, judge-codes, mask-codes, clean-codes, build-codes}
 use Rattle.tables.proofs.Standings.{listed-iff, unexpected-iff, repeated-iff, short-iff, kept-iff, kept-listed}
 use Rattle.tables.proofs.Trees.{backward, between, in-message}
 use Rattle.tables.proofs.Tiling.{tiles}
@@ -54,8 +55,10 @@ use Rattle.verdicts.proofs.Cutting.{nine-iff}
 use Rattle.verdicts.proofs.CutPlace.{table-or-cut, never-both, cut-once, nine-at}
 use Rattle.verdicts.proofs.Refusing.{ten-iff, eleven-iff, eleven-at, twelve-iff, twelve-at}
 use Rattle.promises.specs.Agreeing.{SameOpen, AtDesk}
-use Rattle.promises.specs.Exports.{numbersIn, LeavesOctets}
+use Rattle.promises.specs.Exports.{LeavesOctets}
 use Rattle.promises.specs.Cleaning.{CleanRows}
+use Rattle.promises.specs.Building.{SameRows, HasHead, NumberAlone}
+use Rattle.promises.proofs.Built.{build-alone, build-left-alone, is-built, build-past-stays, built-head, built-judged, built-zero, rebuilt-same}
 use Rattle.promises.specs.Lookups.{valueOf, TopRow, FirstTopRow}
 use Rattle.promises.proofs.Left.{refused-table, refused-copy, table-stays}
 use Rattle.promises.proofs.Covering.{header-open, element-header-open}
@@ -425,6 +428,52 @@ module _ {k : ℕ} {m lent : List ℕ} {s : Sent} {left : List ℕ} (c : Cleans 
         → (s₃ .verdict ≡ accepted) × (v₄ ≡ accepted) × (s₃ .length ≡ s .length) × (take (s₃ .length) left₃ ≡ take (s .length) left₄)
     clean-and-mask = commutes c a
 
+-- ---- the builder
+
+module _ {k typ teid sequence : ℕ} {t values lent : List ℕ} {s : Sent} {left : List ℕ} (c : Builds k typ teid sequence t values lent s left) where
+  -- each of 1, 7, 14, 15 and 16 is given exactly where its check applies and none before it does; nothing else is
+  pub built-in-its-case : (j : ℕ) → j < length buildNumbers → (s .verdict .code ≡ getD buildNumbers j 0) ↔ OwnCase (buildChecks book k typ teid sequence t values (length lent)) j
+  built-in-its-case j l = rw (c .verdict-is) (build-case book k typ teid sequence t values (length lent) j l)
+
+  pub built-one-of : OneOf buildNumbers (s .verdict)
+  built-one-of = rw (c .verdict-is) (build-codes book k typ teid sequence t values (length lent))
+
+  -- and names nothing: cause, place, type and instance are 0
+  pub built-alone : NumberAlone (s .verdict)
+  built-alone = build-alone c
+
+  -- a refusal writes nothing, and its length is 0
+  pub built-refused : refuses (s .verdict) ≡ true → (left ≡ lent) × (s .length ≡ 0)
+  built-refused = build-left-alone c
+
+  module _ (a : s .verdict ≡ accepted) where
+    -- the message stands at the start of the room, with the length that is answered; what is past it stays
+    pub built-holds : take (s .length) left ≡ built book k typ teid sequence t values
+    built-holds = is-built c a
+
+    pub built-stays : drop (s .length) left ≡ drop (s .length) lent
+    built-stays = build-past-stays c a
+
+    -- the judge accepts it on that kind with every row kept, and its rows are those given: parents, types, instances, and the values that are no group's
+    pub built-rows : {lent₂ : List ℕ} {w : Verdict} {u : List ℕ} → Judged k (take (s .length) left) lent₂ w u → used (rows t) ≤ length lent₂
+        → (w ≡ accepted) × SameRows t values (take (s .length) left) u
+    built-rows = built-judged c a
+
+    -- it has the type, the TEID and the sequence number that were given; and no bit is set that nothing reads, in its header or in an element's
+    pub built-header : HasHead typ teid sequence (take (s .length) left)
+    built-header = built-head c a
+
+    pub built-bits : {lent₂ : List ℕ} {w : Verdict} {u : List ℕ} → Judged k (take (s .length) left) lent₂ w u → used (rows t) ≤ length lent₂
+        → ZeroBits (take (s .length) left) u
+    built-bits = built-zero c a
+
+-- a message that lost no row and has no bit set that nothing reads is what the builder makes of the judge's table of it, its own octets lent as
+-- the values and its header's numbers given again, where there is room
+pub comes-back : {k : ℕ} {m lent₁ : List ℕ} {v : Verdict} {t : List ℕ} → Judged k m lent₁ v t → v ≡ accepted → keptCount t ≡ rows t → Octets m → ZeroBits m t
+    → {lent : List ℕ} {s : Sent} {left : List ℕ} → Builds k (messageType m) (teidOf m) (sequenceOf m) t m lent s left → length m ≤ length lent
+    → (s .verdict ≡ accepted) × (s .length ≡ length m) × (take (s .length) left ≡ m)
+comes-back = rebuilt-same
+
 -- ---- the exports: what the C receiver reads, two octets a number
 
 module _ {k : ℕ} {m lent lentFive : List ℕ} {code : ℕ} {left leftFive : List ℕ} (c : JudgedOctets k m lent lentFive code left leftFive) where
@@ -486,6 +535,31 @@ module _ {k : ℕ} {m lent lentAnswer : List ℕ} {code : ℕ} {left leftAnswer 
 
   pub clean-octets-short : length lentAnswer < answerOctets → leftAnswer ≡ lentAnswer
   clean-octets-short = answer-short lentAnswer leftAnswer (cleanVerdict book k m (length lent)) (cleanLength book k m (length lent)) (c .answer-left)
+
+module _ {k typ teid sequence : ℕ} {t values lent lentAnswer : List ℕ} {code : ℕ} {left leftAnswer : List ℕ} (c : BuiltOctets k typ teid sequence t values lent lentAnswer code left leftAnswer) where
+  -- the builder's export leaves the message that the builder leaves, from the numbers that the table's octets are read as
+  pub build-octets-built : (s : Sent) (room : List ℕ) → Builds k typ teid sequence (numbersIn t) values lent s room → (code ≡ s .verdict .code) × (left ≡ room)
+  build-octets-built s room x = (c .answers ∙ sym (ap (λ (w : Verdict). w .code) (x .verdict-is)), c .room-left ∙ sym (x .room-left))
+
+  -- and its six numbers, if there is room for them; else nothing is written
+  pub build-octets-six : (s : Sent) (room : List ℕ) → Builds k typ teid sequence (numbersIn t) values lent s room → answerOctets ≤ length lentAnswer
+      → take 6 (numbersIn leftAnswer) ≡ six (s .verdict) (s .length)
+  build-octets-six s room x l =
+      rw (x .verdict-is, x .length-is)
+      (answer-read lentAnswer leftAnswer (buildVerdict book k typ teid sequence (numbersIn t) values (length lent)) (buildLength book k typ teid sequence (numbersIn t) values (length lent)) (c .answer-left) l)
+
+  pub build-octets-one-of : (code ≡ 0) ⊎ (among code buildNumbers ≡ true)
+  build-octets-one-of =
+      rw (c .answers) (code-of buildNumbers (buildVerdict book k typ teid sequence (numbersIn t) values (length lent)) (build-codes book k typ teid sequence (numbersIn t) values (length lent)))
+
+  -- octets past those of the six numbers stay, and so do all of a buffer that is too short
+  pub build-octets-stay : (i : ℕ) → answerOctets ≤ i → getD leftAnswer i 0 ≡ getD lentAnswer i 0
+  build-octets-stay =
+      answer-stays lentAnswer leftAnswer (buildVerdict book k typ teid sequence (numbersIn t) values (length lent)) (buildLength book k typ teid sequence (numbersIn t) values (length lent)) (c .answer-left)
+
+  pub build-octets-short : length lentAnswer < answerOctets → leftAnswer ≡ lentAnswer
+  build-octets-short =
+      answer-short lentAnswer leftAnswer (buildVerdict book k typ teid sequence (numbersIn t) values (length lent)) (buildLength book k typ teid sequence (numbersIn t) values (length lent)) (c .answer-left)
 
 -- ---- two messages of one length that differ in covered octets alone, and equal buffers
 

@@ -5,7 +5,7 @@ use mathlib.Core.List.{List}
 use Prim.Native.Nat.{ℕ}
 use denote.Ref.{RefT, now, ptr}
 use Rattle.rules.specs.Values.{Stands}
-use Rattle.rules.specs.Answers.{Read, Decided, Judged, Masked, Cleans, Plain, PlainFound, Desk, DeskFound, JudgedOctets, MaskedOctets, CleanedOctets}
+use Rattle.rules.specs.Answers.{Read, Decided, Judged, Masked, Cleans, Builds, Plain, PlainFound, Desk, DeskFound, JudgedOctets, MaskedOctets, CleanedOctets, BuiltOctets}
 use Rattle.rules.specs.Program.{Written}
 use Rattle.rules.specs.declared.Verdict.{Verdict}
 use Rattle.rules.specs.declared.Reading.{Reading}
@@ -31,6 +31,10 @@ masked-unique k m c r r′ l l′ x y = (both (x .answers) (y .answers), both (x
 
 pub cleaned-unique : (k : ℕ) (m c : List ℕ) (r r′ : Sent) (l l′ : List ℕ) → Cleans k m c r l → Cleans k m c r′ l′ → (r .verdict ≡ r′ .verdict) × (r .length ≡ r′ .length) × (l ≡ l′)
 cleaned-unique k m c r r′ l l′ x y = (both (x .verdict-is) (y .verdict-is), both (x .length-is) (y .length-is), both (x .out-left) (y .out-left))
+
+pub builds-unique : (k typ teid sequence : ℕ) (t values room : List ℕ) (r r′ : Sent) (l l′ : List ℕ) → Builds k typ teid sequence t values room r l → Builds k typ teid sequence t values room r′ l′
+    → (r .verdict ≡ r′ .verdict) × (r .length ≡ r′ .length) × (l ≡ l′)
+builds-unique k typ teid sequence t values room r r′ l l′ x y = (both (x .verdict-is) (y .verdict-is), both (x .length-is) (y .length-is), both (x .room-left) (y .room-left))
 
 -- equal octets, and equal places: the block and the offset in it
 pub record SamePart (r r′ : RefT (List ℕ)) : Type 0 where
@@ -64,6 +68,11 @@ masked-octets-unique k m c five r r′ l l′ f f′ x y = (both (x .answers) (y
 pub cleaned-octets-unique : (k : ℕ) (m c answer : List ℕ) (r r′ : ℕ) (l l′ f f′ : List ℕ) → CleanedOctets k m c answer r l f → CleanedOctets k m c answer r′ l′ f′
     → (r ≡ r′) × (l ≡ l′) × (f ≡ f′)
 cleaned-octets-unique k m c answer r r′ l l′ f f′ x y = (both (x .answers) (y .answers), both (x .clean-left) (y .clean-left), both (x .answer-left) (y .answer-left))
+
+pub built-octets-unique : (k typ teid sequence : ℕ) (t values room answer : List ℕ) (r r′ : ℕ) (l l′ f f′ : List ℕ) → BuiltOctets k typ teid sequence t values room answer r l f
+    → BuiltOctets k typ teid sequence t values room answer r′ l′ f′ → (r ≡ r′) × (l ≡ l′) × (f ≡ f′)
+built-octets-unique k typ teid sequence t values room answer r r′ l l′ f f′ x y =
+    (both (x .answers) (y .answers), both (x .room-left) (y .room-left), both (x .answer-left) (y .answer-left))
 
 pub written-unique : (input out : List ℕ) (r r′ : ℕ) (o o′ : List ℕ) → Written input out r o → Written input out r′ o′ → (r ≡ r′) × (o ≡ o′)
 written-unique input out r r′ o o′ x y = (both (x .answers) (y .answers), both (x .out-left) (y .out-left))

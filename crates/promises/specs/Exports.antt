@@ -1,20 +1,13 @@
 -- What the C receiver reads in the octet buffers: two octets a number, high octet first; an odd last octet is no number. Assumes nothing.
 use mathlib.Core.Path.{_≡_}
-use mathlib.Core.List.{List, [], _∷_}
-use Prim.Native.Nat.{ℕ, _+_, _*_, _≤_}
+use mathlib.Core.List.{List}
+use Prim.Native.Nat.{ℕ, _*_, _≤_}
 use lib.ListN.{length, getD}
 use Rattle.rules.specs.Sizes.{used}
 use Rattle.rules.specs.Listings.{Book}
+use Rattle.rules.specs.Octets.{numbersIn}
 use Rattle.tables.specs.Words.{rows}
 use Rattle.verdicts.specs.Accepts.{Accepts}
-
-abbrev pub numberOf : ℕ → ℕ → ℕ
-numberOf high low = high * 256 + low
-
-unfoldable pub numbersIn : List ℕ → List ℕ
-numbersIn [] = []
-numbersIn (x ∷ []) = []
-numbersIn (x ∷ y ∷ xs) = numberOf x y ∷ numbersIn xs
 
 -- a table that is accepted is read in what is left, of the length that was lent, and octets past those used are as they were
 pub record LeavesOctets (b : Book) (k : ℕ) (m lent left : List ℕ) : Type 0 where

@@ -1,5 +1,6 @@
 pub mod Agreeing
 pub mod Exports
 pub mod Cleaning
+pub mod Building
 pub mod Lookups
 pub mod StandIns

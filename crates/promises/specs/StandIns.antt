@@ -1,4 +1,4 @@
--- Functions that stand in for a judge, a masker, a cleaner or a lookup: what it means that one meets its contract. They are asked no more than the code is: of a kind
+-- Functions that stand in for a judge, a masker, a cleaner, a builder or a lookup: what it means that one meets its contract. They are asked no more than the code is: of a kind
 -- of 32 bits, octets, and numbers of 16 bits. Assumes nothing.
 use mathlib.Core.Path.{_≡_}
 use mathlib.Core.Bool.{Bool, true, cond, _&&_}
@@ -11,9 +11,10 @@ use Rattle.rules.specs.Listings.{Book, Line, book}
 use Rattle.rules.specs.Framing.{octet, headerLength}
 use Rattle.rules.specs.Standing.{Item, kept}
 use Rattle.rules.specs.Verdicts.{items}
-use Rattle.rules.specs.Emitting.{emitted, written}
+use Rattle.rules.specs.Emitting.{Piece, emitted, written}
 use Rattle.rules.specs.Cleaned.{pieces}
-use Rattle.rules.specs.Answers.{Judged, Masked, Cleans, Plain, Desk}
+use Rattle.rules.specs.Built.{firstOf, givenRows, hasTeid, restGiven}
+use Rattle.rules.specs.Answers.{Judged, Masked, Cleans, Builds, Plain, Desk}
 use Rattle.rules.specs.declared.Verdict.{Verdict}
 use Rattle.rules.specs.declared.Sent.{Sent}
 
@@ -81,6 +82,33 @@ takenOuter i = record {
 abbrev pub outerCleaned : ℕ → List ℕ → List ℕ
 outerCleaned k m =
     written (octet m 0) (octet m 1) (take (headerLength m - 4) (drop 4 m)) (emitted 0 (pieces m (map takenOuter (items book k m))))
+
+-- from kind, type, TEID, sequence number, table, values and room, what is answered and what is left
+abbrev pub Builder : Type 0
+Builder = ℕ → ℕ → ℕ → ℕ → List ℕ → List ℕ → List ℕ → Writing
+
+pub record GivenTable (k typ teid sequence : ℕ) (t values room : List ℕ) : Type 0 where
+  pub kind : ltb k kindBound ≡ true
+  pub type-number : ltb typ kindBound ≡ true
+  pub teid-number : ltb teid kindBound ≡ true
+  pub sequence-number : ltb sequence kindBound ≡ true
+  pub numbers : below numberBound t ≡ true
+  pub octets : below octetBound values ≡ true
+  pub lent : below octetBound room ≡ true
+
+abbrev pub IsBuilder : Builder → Type 0
+IsBuilder f =
+    (k typ teid sequence : ℕ) (t values room : List ℕ) → GivenTable k typ teid sequence t values room
+    → Builds k typ teid sequence t values room (f k typ teid sequence t values room .sent) (f k typ teid sequence t values room .left)
+
+-- the message of the rows of the message level alone: a group has nothing inside
+unfoldable pub outerPieces : List Piece → List Piece
+outerPieces [] = []
+outerPieces (x ∷ xs) = cond (eqb (x .parent) 0) (x ∷ outerPieces xs) (outerPieces xs)
+
+abbrev pub outerBuilt : ℕ → ℕ → ℕ → ℕ → List ℕ → List ℕ → List ℕ
+outerBuilt k typ teid sequence t values =
+    written (firstOf (hasTeid book k typ teid sequence t values)) typ (restGiven book k typ teid sequence t values) (emitted 0 (outerPieces (givenRows t values)))
 
 -- from type, instance, message and table a part
 abbrev pub Lookup : Type 0

@@ -9,10 +9,12 @@ use Rattle.rules.specs.Taking.{run, walk, itemsOf, bodyLevel, taken}
 use Rattle.rules.specs.Table.{rowsOf, keptRows, header, tableOf, laid}
 use Rattle.rules.specs.Verdicts.{check, first, shortChecks, hasKept, levelChecks, groupChecks, lackChecks, headerChecks, framingChecks, judgeChecks, maskChecks, judgeTable}
 use Rattle.rules.specs.Covered.{openOctets, zeroed, clearAll, masked, maskCopy}
-use Rattle.rules.specs.Emitting.{sizeOf, within, emitted}
+use Rattle.rules.specs.Emitting.{sizeOf, sizes, within, emitted}
 use Rattle.rules.specs.Cleaned.{received, pieces, cleaned, cleanChecks, cleanLength, cleanCopy}
+use Rattle.rules.specs.Built.{given, givens, standingKept, since, depthFirst, someRow, anyOf, reasons, built, buildChecks, buildLength, buildRoom}
 use Rattle.rules.specs.Examples.{examples, outcome, written}
 use Rattle.rules.specs.CleanExamples.{cleanings, cleanOutcome, cleanWritten}
+use Rattle.rules.specs.BuildExamples.{builds, buildOutcome, buildWritten}
 
 pub a-to-m : map outcome examples ≡ map written examples
 unfolding examples version flagP flagT messageType lengthField headerLength headOf parteds leastByType leastOf wholeTypes coversWhole restTypes coversRest levels messages book seek seekMessage listing messageOf isMessage isShort markAfter standing marked entered itemOf run walk itemsOf bodyLevel taken rowsOf keptRows header tableOf laid check first shortChecks hasKept levelChecks groupChecks lackChecks headerChecks framingChecks judgeChecks maskChecks judgeTable openOctets zeroed clearAll masked maskCopy
@@ -21,6 +23,10 @@ a-to-m = refl
 pub all-cleanings : map cleanOutcome cleanings ≡ map cleanWritten cleanings
 unfolding cleanings version flagP flagT messageType lengthField headerLength headOf parteds leastByType leastOf groups isGroup levels messages book seek seekMessage listing messageOf isMessage isShort markAfter standing marked entered itemOf run walk itemsOf bodyLevel taken laid check first shortChecks hasKept levelChecks groupChecks lackChecks headerChecks framingChecks sizeOf within emitted received pieces cleaned cleanChecks cleanLength cleanCopy
 all-cleanings = refl
+
+pub all-builds : map buildOutcome builds ≡ map buildWritten builds
+unfolding builds version flagP flagT messageType lengthField headerLength headOf parteds leastByType leastOf groups isGroup levels messages book seek seekMessage listing messageOf isMessage isShort markAfter standing marked entered itemOf run walk itemsOf bodyLevel taken keptRows laid check first shortChecks hasKept levelChecks groupChecks lackChecks headerChecks framingChecks judgeChecks sizeOf sizes within emitted given givens standingKept since depthFirst someRow anyOf reasons built buildChecks buildLength buildRoom
+all-builds = refl
 
 -- a User Location with no part, with each of the six alone, with TAI and ECGI, with all, with the two highest bits alone, and with every bit
 pub lengths-of-86 : map (leastOf 86) (0x00 ∷ 0x01 ∷ 0x02 ∷ 0x04 ∷ 0x08 ∷ 0x10 ∷ 0x20 ∷ 0x18 ∷ 0x3F ∷ 0xC0 ∷ 0xFF ∷ [])

@@ -1,6 +1,6 @@
 -- What passing checks 1 to 8 says of a message, and that each check has a number of its own. Assumes nothing.
 --     passed      checks 1 to 8 pass               framed       checks 1 to 9 pass: the elements are all taken
---     judge-case, mask-case, clean-case            a number is given exactly in its own case
+--     judge-case, mask-case, clean-case, build-case   a number is given exactly in its own case
 use mathlib.Core.Path.{_≡_, refl, sym, ap, _∙_}
 use mathlib.Core.Logic.{_⊎_, inl, inr, _↔_}
 use mathlib.Core.Bool.{Bool, true, false, cond, not, _&&_, _||_, Bool·beq}
@@ -19,6 +19,7 @@ use Rattle.rules.specs.Standing.{Item}
 use Rattle.rules.specs.Taking.{Out, cut, whole, taken, bodyLevel}
 use Rattle.rules.specs.Verdicts.{accepted, refused, check, refuses, first, cutCheck, shortCheck, shortChecks, shortVerdict, levelChecks, insideChecks, groupChecks, lackChecks, lackVerdict, headerChecks, framingChecks, items, copyCheck, tableChecks, judgeChecks, maskChecks, framingNumbers, judgeNumbers, maskNumbers}
 use Rattle.rules.specs.Cleaned.{tooShort, cleanChecks, cleanNumbers}
+use Rattle.rules.specs.Built.{buildChecks, buildNumbers}
 use Rattle.rules.specs.declared.Verdict.{Verdict}
 use Rattle.rules.proofs.Lines.{beq-same}
 use Rattle.rules.proofs.Checks.{AllPass, all-pass, Numbered, lastNumber, numbered-append, OwnCase, in-its-case}
@@ -200,3 +201,10 @@ module _ (b : Book) (k : ℕ) (m : List ℕ) where
         in-its-case 0 cleanNumbers (cleanChecks b k m room)
         (numbered (11 ∷ 12 ∷ 13 ∷ []) (shortVerdict (items b k m) ∷ lackVerdict b k (bodyLevel b m) (items b k m) ∷ tooShort b k m room ∷ [])
         (omega arith, short-code, (omega arith, lack-code, (omega arith, check-code 13 _ _ refl, tt)))) j l
+
+pub build-case : (b : Book) (k typ teid sequence : ℕ) (t values : List ℕ) (room j : ℕ) → j < 5
+    → (first (buildChecks b k typ teid sequence t values room) .code ≡ getD buildNumbers j 0) ↔ OwnCase (buildChecks b k typ teid sequence t values room) j
+unfolding buildChecks Numbered
+build-case b k typ teid sequence t values room j l =
+    in-its-case 0 buildNumbers (buildChecks b k typ teid sequence t values room)
+    (omega arith, check-code 1 _ _ refl, (omega arith, check-code 7 _ _ refl, (omega arith, check-code 14 _ _ refl, (omega arith, check-code 15 _ _ refl, (omega arith, check-code 16 _ _ refl, tt))))) j l

@@ -12,5 +12,7 @@ pub mod Readings
 pub mod Pairs
 pub mod Covers
 pub mod Book
+pub mod Reasons
+pub mod Numbers
 pub mod Program
 pub mod Examples

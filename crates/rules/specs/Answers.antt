@@ -12,8 +12,9 @@ use Rattle.rules.specs.Table.{rowsOf, keptRows, laid, fitting}
 use Rattle.rules.specs.Verdicts.{accepted, first, refuses, headerChecks, framingChecks, shortVerdict, lackVerdict, items, judgeVerdict, maskVerdict, judgeTable}
 use Rattle.rules.specs.Covered.{maskCopy}
 use Rattle.rules.specs.Cleaned.{cleanVerdict, cleanLength, cleanCopy}
+use Rattle.rules.specs.Built.{buildVerdict, buildLength, buildRoom}
 use Rattle.rules.specs.Values.{Stands, deskSpan, plainSpan}
-use Rattle.rules.specs.Octets.{fiveLaid, answerLaid, tableRoom, judgeOctets}
+use Rattle.rules.specs.Octets.{numbersIn, fiveLaid, answerLaid, tableRoom, judgeOctets}
 use Rattle.rules.specs.declared.Verdict.{Verdict}
 use Rattle.rules.specs.declared.Reading.{Reading}
 use Rattle.rules.specs.declared.Decision.{Decision}
@@ -76,6 +77,13 @@ pub record Cleans (kind : ℕ) (message out : List ℕ) (answer : Sent) (out′ 
   pub length-is : answer .length ≡ cleanLength book kind message (length out)
   pub out-left : out′ ≡ cleanCopy book kind message out
 
+-- ---- the builder
+
+pub record Builds (kind typ teid sequence : ℕ) (table values room : List ℕ) (answer : Sent) (room′ : List ℕ) : Type 0 where
+  pub verdict-is : answer .verdict ≡ buildVerdict book kind typ teid sequence table values (length room)
+  pub length-is : answer .length ≡ buildLength book kind typ teid sequence table values (length room)
+  pub room-left : room′ ≡ buildRoom book kind typ teid sequence table values room
+
 -- ---- the lookups and their companions
 
 abbrev pub Plain : ℕ → ℕ → RefT (List ℕ) → List ℕ → RefT (List ℕ) → Type 0
@@ -108,3 +116,10 @@ pub record CleanedOctets (kind : ℕ) (message clean answer : List ℕ) (code : 
   pub answers : code ≡ cleanVerdict book kind message (length clean) .code
   pub clean-left : clean′ ≡ cleanCopy book kind message clean
   pub answer-left : answer′ ≡ answerLaid (cleanVerdict book kind message (length clean)) (cleanLength book kind message (length clean)) answer
+
+-- the table's numbers are those that its octets are read as
+pub record BuiltOctets (kind typ teid sequence : ℕ) (table values room answer : List ℕ) (code : ℕ) (room′ answer′ : List ℕ) : Type 0 where
+  pub answers : code ≡ buildVerdict book kind typ teid sequence (numbersIn table) values (length room) .code
+  pub room-left : room′ ≡ buildRoom book kind typ teid sequence (numbersIn table) values room
+  pub answer-left : answer′
+      ≡ answerLaid (buildVerdict book kind typ teid sequence (numbersIn table) values (length room)) (buildLength book kind typ teid sequence (numbersIn table) values (length room)) answer

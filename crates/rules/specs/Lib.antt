@@ -12,8 +12,10 @@ pub mod Values
 pub mod Octets
 pub mod Emitting
 pub mod Cleaned
+pub mod Built
 pub mod Answers
 pub mod Program
 pub mod Examples
 pub mod CleanExamples
+pub mod BuildExamples
 pub mod Sound

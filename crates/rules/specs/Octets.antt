@@ -1,5 +1,5 @@
 -- The octet forms for the C receiver: two octets a number, high octet first. Assumes nothing.
-use Prim.Native.Nat.{ℕ, _/_, _%_}
+use Prim.Native.Nat.{ℕ, _+_, _*_, _/_, _%_}
 use mathlib.Core.Bool.{Bool, true, false, cond}
 use mathlib.Core.List.{List, [], _∷_}
 use lib.Dec.{ltb}
@@ -13,6 +13,15 @@ use Rattle.rules.specs.declared.Verdict.{Verdict}
 unfoldable pub octetsOf : List ℕ → List ℕ
 octetsOf [] = []
 octetsOf (x ∷ xs) = x / 256 ∷ x % 256 ∷ octetsOf xs
+
+-- and read again: an odd last octet is no number
+abbrev pub numberOf : ℕ → ℕ → ℕ
+numberOf high low = high * 256 + low
+
+unfoldable pub numbersIn : List ℕ → List ℕ
+numbersIn [] = []
+numbersIn (x ∷ []) = []
+numbersIn (x ∷ y ∷ xs) = numberOf x y ∷ numbersIn xs
 
 abbrev pub five : Verdict → List ℕ
 five v = v .code ∷ v .cause ∷ v .place ∷ v .typ ∷ v .inst ∷ []

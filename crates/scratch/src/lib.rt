@@ -1,4 +1,4 @@
-// What a message is read into: room for few rows or for all, and which of them to try first.
+// What a message is read into, room for few rows or for all, and which of them to try first; and what one is written into.
 ghost use mathlib.Core.Path.{_≡_};
 ghost use Prim.Native.Nat.{_+_, _<_};
 ghost use lib.ListN.{length};
@@ -17,6 +17,13 @@ pub fn large() -> [u16; 6132]
     ensures { λ r. ⌜ Zeros 6132 r ⌝ }
 {
     [0u16; 6132]
+}
+
+// What a message is written into before it is known to be right: room for any.
+pub fn page() -> [u8; 4096]
+    ensures { λ r. ⌜ Zeros 4096 r ⌝ }
+{
+    [0u8; 4096]
 }
 
 // Where the elements begin.

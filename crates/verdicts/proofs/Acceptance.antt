@@ -16,9 +16,10 @@ use Rattle.rules.specs.Listings.{Book}
 use Rattle.rules.specs.Sound.{sound}
 use Rattle.rules.specs.Verdicts.{accepted, refuses, first, judgeChecks, maskChecks, judgeVerdict, maskVerdict, judgeNumbers, maskNumbers}
 use Rattle.rules.specs.Cleaned.{cleanChecks, cleanVerdict, cleanNumbers}
+use Rattle.rules.specs.Built.{buildChecks, buildVerdict, buildNumbers}
 use Rattle.rules.specs.declared.Verdict.{Verdict}
 use Rattle.rules.proofs.Checks.{AllPass, all-pass, first-pass, OwnCase}
-use Rattle.rules.proofs.Header.{judge-case, mask-case, clean-case}
+use Rattle.rules.proofs.Header.{judge-case, mask-case, clean-case, build-case}
 use Rattle.verdicts.specs.Conditions.{judgeConditions, maskConditions}
 use Rattle.tables.proofs.Tests.{clash, or-left, or-right}
 use Rattle.verdicts.proofs.Cases.{Step, none-applies, judge-step, mask-step, judge-count, mask-count, clean-count}
@@ -94,3 +95,8 @@ module _ (b : Book) (fine : sound b ≡ true) (k : ℕ) (m : List ℕ) (room : �
 
   pub clean-codes : OneOf cleanNumbers (cleanVerdict b k m room)
   clean-codes = one-of (cleanChecks b k m room) cleanNumbers (clean-count b k m room) (λ j l. clean-case b k m room j l .1)
+
+pub build-codes : (b : Book) (k typ teid sequence : ℕ) (t values : List ℕ) (room : ℕ) → OneOf buildNumbers (buildVerdict b k typ teid sequence t values room)
+unfolding buildChecks
+build-codes b k typ teid sequence t values room =
+    one-of (buildChecks b k typ teid sequence t values room) buildNumbers refl (λ j l. build-case b k typ teid sequence t values room j l .1)

@@ -1,4 +1,4 @@
--- What the exports leave: the judge's from the decision and what is stored of it, the masker's from the masker, the cleaner's from the cleaner. Assumes nothing.
+-- What the exports leave: the judge's from the decision and what is stored of it, the masker's from the masker, the cleaner's from the cleaner, the builder's from the builder. Assumes nothing.
 use mathlib.Core.Path.{_≡_, refl, ap, _∙_}
 use mathlib.Core.Bool.{Bool, true, false, cond}
 use mathlib.Core.List.{List}
@@ -10,13 +10,14 @@ use Rattle.rules.specs.Sizes.{rowNumbers}
 use Rattle.rules.specs.Listings.{book}
 use Rattle.rules.specs.Table.{tableOf, laid}
 use Rattle.rules.specs.Verdicts.{refuses, items}
-use Rattle.rules.specs.Octets.{octetsOf, fiveLaid, answerLaid, tableRoom, judgeOctets}
-use Rattle.rules.specs.Answers.{Decided, JudgedOctets, Masked, MaskedOctets, Cleans, CleanedOctets}
+use Rattle.rules.specs.Octets.{octetsOf, numbersIn, fiveLaid, answerLaid, tableRoom, judgeOctets}
+use Rattle.rules.specs.Answers.{Decided, JudgedOctets, Masked, MaskedOctets, Cleans, CleanedOctets, Builds, BuiltOctets}
 use Rattle.rules.specs.declared.Verdict.{Verdict}
 use Rattle.rules.specs.declared.Decision.{Decision}
 use Rattle.rules.specs.declared.Sent.{Sent}
 use Rattle.rules.proofs.Book.{book-sound}
 use Rattle.emitted.proofs.Refusals.{clean-most}
+use Rattle.emitted.proofs.Building.{build-most}
 use Rattle.judging.proofs.Accepted.{Ready, verdict-is, ready}
 use Rattle.octets.specs.Stored.{tableStored}
 use Rattle.octets.proofs.Tables.{fits}
@@ -61,3 +62,15 @@ cleaned-octets {answer = answer} x f = record {
 -- the length has 16 bits
 pub length-most : {k : ℕ} {m clean clean′ : List ℕ} {s : Sent} → Cleans k m clean s clean′ → s .length ≤ 65535
 length-most {k} {m} {clean} x = omega (arith, x .length-is, clean-most book book-sound k m (length clean))
+
+module _ (table : List ℕ) {k typ teid sequence : ℕ} {values room : List ℕ} {s : Sent} {room′ : List ℕ} (x : Builds k typ teid sequence (numbersIn table) values room s room′) where
+  pub built-octets : {answer answer′ : List ℕ} → answer′ ≡ answerLaid (s .verdict) (s .length) answer
+      → BuiltOctets k typ teid sequence table values room answer (s .verdict .code) room′ answer′
+  built-octets {answer} f = record {
+    answers = ap (λ (u : Verdict). u .code) (x .verdict-is);
+    room-left = x .room-left;
+    answer-left = f ∙ rw (x .verdict-is, x .length-is);
+  }
+
+  pub built-most : s .length ≤ 65535
+  built-most = omega (arith, x .length-is, build-most book book-sound k typ teid sequence (numbersIn table) values (length room))

@@ -1,5 +1,5 @@
 // The exports to C: numbers go as octets, and the code is the result.
-ghost use Rattle.rules.specs.Answers.{JudgedOctets, MaskedOctets, CleanedOctets};
+ghost use Rattle.rules.specs.Answers.{JudgedOctets, MaskedOctets, CleanedOctets, BuiltOctets};
 ghost use Rattle.wokshimmer.specs.Exports.{Stored};
 use rules::Decision;
 
@@ -61,5 +61,27 @@ pub extern "C" fn wok_clean(kind: u32, message: &[u8], clean: &mut [u8], answer:
     let v = s.verdict;
     let length = s.length;
     octets::put_answer(v, length as u16, answer);
+    v.code
+}
+
+// The verdict's code; its five numbers and the length of the message go to `answer`, and if nothing refuses the message to `room`. The table is lent as
+// octets, two a number.
+#[no_mangle]
+pub extern "C" fn wok_build(
+    kind: u32,
+    typ: u32,
+    teid: u32,
+    sequence: u32,
+    table: &[u8],
+    values: &[u8],
+    room: &mut [u8],
+    answer: &mut [u8],
+) -> u16
+    ensures { λ r. ⌜ BuiltOctets kind typ teid sequence (now (table .entry)) (now (values .entry)) (now (room .entry)) (now (answer .entry)) r (now (room .exit)) (now (answer .exit)) ⌝ }
+{
+    let s = building::build_octets(kind, typ, teid, sequence, table, values, room);
+    let v = s.verdict;
+    let n = s.length;
+    octets::put_answer(v, n as u16, answer);
     v.code
 }

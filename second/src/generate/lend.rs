@@ -39,7 +39,7 @@ impl Case {
 }
 
 /// One short, exact, longer, and none.
-fn around(need: usize) -> Vec<usize> {
+pub fn around(need: usize) -> Vec<usize> {
     vec![need.saturating_sub(1), need, need + 1, need + 20, 0]
 }
 

@@ -1,6 +1,7 @@
-//! A seeded generator of messages made from the listings, good and damaged,
-//! and of the buffers lent with them.
+//! A seeded generator of messages made from the listings, good and damaged, of
+//! the buffers lent with them, and of what a builder is given.
 
+mod builds;
 mod compose;
 mod damage;
 mod draft;
@@ -9,6 +10,7 @@ mod lend;
 mod limits;
 mod random;
 
+pub use builds::{builds, Build, Rooms};
 pub use figures::figures;
 pub use lend::{hostile_tables, Ask, Buffers, Lookup, ANSWERS};
 pub use random::Random;

@@ -1,5 +1,6 @@
 //! Tests of the second program, one module for each part of the rules.
 
+mod build;
 mod changes;
 mod clean;
 mod coverage;

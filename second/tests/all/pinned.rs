@@ -1,13 +1,13 @@
 //! Each figure of the rules is pinned by the gate's own comparisons: whatever
-//! single figure is changed, at least ten of the messages (or lookups) that the
-//! proved programs are compared on get another answer. So a fault that stood in
-//! the proved code and in its definition alike would be seen.
+//! single figure is changed, at least ten of the messages (or lookups, or builds)
+//! that the proved programs are compared on get another answer. So a fault that
+//! stood in the proved code and in its definition alike would be seen.
 
 use std::collections::BTreeMap;
 use std::thread;
 
 use crate::changes::{changes, Bears, Change, Shown};
-use second::generate::{figures, Buffers, Case, Generator, Lookup};
+use second::generate::{builds, figures, Buffers, Build, Case, Generator, Lookup, Rooms};
 use second::{Rules, DOCUMENT};
 
 const AT_LEAST: usize = 10;
@@ -21,6 +21,7 @@ struct Gate {
     with_type: Vec<Vec<usize>>,
     inputs: Vec<(Vec<u8>, String)>,
     lookups: Vec<Lookup>,
+    builds: Vec<Built>,
 }
 
 struct Compared {
@@ -29,6 +30,12 @@ struct Compared {
     answers: [Vec<u8>; 2],
     /// The standings that rows of a type have, a bit each, by type.
     standings: [u8; 256],
+}
+
+struct Built {
+    build: Build,
+    lent: [Rooms; 2],
+    answers: [Vec<u8>; 2],
 }
 
 /// What a call writes into two buffers of these lengths, of 0xEE at first, and
@@ -54,6 +61,31 @@ fn answer(rules: &Rules, case: &Case, lent: &Buffers) -> Vec<u8> {
         rules.clean_octets(*kind, message, clean, answer)
     });
     [judged, masked, cleaned].concat()
+}
+
+/// All that the builder answers and writes.
+fn built(rules: &Rules, build: &Build, lent: &Rooms) -> Vec<u8> {
+    let table = build.table_octets(lent.table);
+    left_by([lent.room, lent.answer], |room, answer| {
+        rules.build_octets(build.head, &table, &build.values, room, answer)
+    })
+}
+
+impl Built {
+    fn new((seed, build): (usize, Build)) -> Self {
+        let lent = build.lent(seed as u64);
+        let answers = lent.map(|lent| built(&DOCUMENT, &build, &lent));
+        Self {
+            build,
+            lent,
+            answers,
+        }
+    }
+
+    fn differs(&self, rules: &Rules) -> bool {
+        let mut trials = self.lent.iter().zip(&self.answers);
+        trials.any(|(lent, expected)| built(rules, &self.build, lent) != *expected)
+    }
 }
 
 impl Compared {
@@ -115,22 +147,20 @@ impl Gate {
                 .map(|input| (input.clone(), DOCUMENT.program(&input)))
                 .collect(),
             lookups: lookups.collect(),
+            builds: builds().into_iter().enumerate().map(Built::new).collect(),
         }
     }
 
     /// On how many messages, inputs or lookups a change shows: the least count
     /// over the comparisons that have to show it.
     fn count(&self, change: &Change) -> usize {
-        let octets = || self.octets(change);
-        let program = || self.program(&change.rules);
-        let lookups = || self.lookups(&change.rules);
-        match change.shown {
-            Shown::Octets => octets(),
-            Shown::OctetsAndProgram => octets().min(program()),
-            Shown::OctetsAndLookups => octets().min(lookups()),
-            Shown::Program => program(),
-            Shown::Lookups => lookups(),
-        }
+        let counts = change.shown.iter().map(|shown| match shown {
+            Shown::Octets => self.octets(change),
+            Shown::Program => self.program(&change.rules),
+            Shown::Lookups => self.lookups(&change.rules),
+            Shown::Builds => self.builds(&change.rules),
+        });
+        counts.min().expect("some comparison has to show it")
     }
 
     fn octets(&self, change: &Change) -> usize {
@@ -148,6 +178,11 @@ impl Gate {
     fn program(&self, rules: &Rules) -> usize {
         let differs = |(input, text): &&(Vec<u8>, String)| rules.program(input) != *text;
         self.inputs.iter().filter(differs).count()
+    }
+
+    fn builds(&self, rules: &Rules) -> usize {
+        let differs = |built: &&Built| built.differs(rules);
+        self.builds.iter().filter(differs).take(PLENTY).count()
     }
 
     fn lookups(&self, rules: &Rules) -> usize {
@@ -221,8 +256,8 @@ impl Tally {
 fn every_figure_is_pinned() {
     let gate = Gate::new();
     let (messages, inputs) = (gate.cases.len(), gate.inputs.len());
-    let lookups = gate.lookups.len();
-    println!("{messages} messages, {inputs} inputs, {lookups} lookups");
+    let (lookups, builds) = (gate.lookups.len(), gate.builds.len());
+    println!("{messages} messages, {inputs} inputs, {lookups} lookups, {builds} builds");
     let changes = changes();
     let mut tally = Tally::default();
     for (change, count) in changes.iter().zip(counts(&gate, &changes)) {

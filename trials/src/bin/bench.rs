@@ -1,10 +1,10 @@
-//! Judge and mask, and clean alone, through the C interface against the second program: the ratio is the second program's time divided by
-//! ours, so that higher is better. Turns are interleaved, and the best of each side counts. Buffers are made once and not cleared between
-//! messages.
-use second::generate::Generator;
+//! Judge and mask, clean alone, and build, through the C interface against the second program: the ratio is the second program's time divided
+//! by ours, so that higher is better. Turns are interleaved, and the best of each side counts. Buffers are made once and not cleared between
+//! messages. `bench LINE SIDE TURNS` does one line (0 to 4) of one side (ours, second) so many times and measures nothing: trials/instructions counts.
+use second::generate::{Build, Generator};
 use std::hint::black_box;
 use std::time::Instant;
-use trials::Call;
+use trials::{BuildCall, Call};
 
 const TURNS: usize = 60;
 const LARGEST: usize = 4_096;
@@ -13,51 +13,55 @@ struct Buffers {
     table: Vec<u8>,
     copy: Vec<u8>,
     five: Vec<u8>,
-    clean: Vec<u8>,
     answer: Vec<u8>,
 }
 
-type Messages = [(u32, Vec<u8>)];
+type Messages = Vec<(u32, Vec<u8>)>;
+/// One turn of one side.
+type Turn = Box<dyn Fn(&mut Buffers)>;
 
-fn pass(messages: &Messages, judge: Call, mask: Call, buffers: &mut Buffers) -> f64 {
-    let began = Instant::now();
-    for (kind, message) in messages {
-        black_box(judge(*kind, black_box(message), &mut buffers.table, &mut buffers.five));
-        black_box(mask(*kind, black_box(message), &mut buffers.copy, &mut buffers.five));
-    }
-    began.elapsed().as_secs_f64()
+struct Line {
+    name: &'static str,
+    count: usize,
+    sides: [Turn; 2],
 }
 
-fn clean_pass(messages: &Messages, clean: Call, buffers: &mut Buffers) -> f64 {
-    let began = Instant::now();
-    for (kind, message) in messages {
-        black_box(clean(*kind, black_box(message), &mut buffers.clean, &mut buffers.answer));
-    }
-    began.elapsed().as_secs_f64()
+fn judge_and_mask(name: &'static str, messages: &Messages) -> Line {
+    let side = |judge: Call, mask: Call| -> Turn {
+        let messages = messages.clone();
+        Box::new(move |b| {
+            for (kind, message) in &messages {
+                black_box(judge(*kind, black_box(message), &mut b.table, &mut b.five));
+                black_box(mask(*kind, black_box(message), &mut b.copy, &mut b.five));
+            }
+        })
+    };
+    Line { name, count: messages.len(), sides: [side(trials::judge, trials::mask), side(second::judge_octets, second::mask_octets)] }
 }
 
-fn compare(name: &str, messages: &Messages) {
-    let our = |buffers: &mut Buffers| pass(messages, trials::judge, trials::mask, buffers);
-    let their = |buffers: &mut Buffers| pass(messages, second::judge_octets, second::mask_octets, buffers);
-    best(name, messages, our, their);
+fn clean_alone(name: &'static str, messages: &Messages) -> Line {
+    let side = |clean: Call| -> Turn {
+        let messages = messages.clone();
+        Box::new(move |b| {
+            for (kind, message) in &messages {
+                black_box(clean(*kind, black_box(message), &mut b.copy, &mut b.answer));
+            }
+        })
+    };
+    Line { name, count: messages.len(), sides: [side(trials::clean), side(second::clean_octets)] }
 }
 
-fn compare_clean(name: &str, messages: &Messages) {
-    let our = |buffers: &mut Buffers| clean_pass(messages, trials::clean, buffers);
-    let their = |buffers: &mut Buffers| clean_pass(messages, second::clean_octets, buffers);
-    best(name, messages, our, their);
-}
-
-fn best(name: &str, messages: &Messages, our: impl Fn(&mut Buffers) -> f64, their: impl Fn(&mut Buffers) -> f64) {
-    let room = |length| vec![0; length];
-    let mut buffers = Buffers { table: room(2 * 6_136), copy: room(LARGEST), five: room(10), clean: room(LARGEST), answer: room(12) };
-    let (mut ours, mut theirs) = (f64::MAX, f64::MAX);
-    for _ in 0..TURNS {
-        ours = ours.min(our(&mut buffers));
-        theirs = theirs.min(their(&mut buffers));
-    }
-    let each = 1e9 / messages.len() as f64;
-    println!("{name}: ours {:.0} ns, second {:.0} ns a message, ratio {:.2}", ours * each, theirs * each, theirs / ours);
+fn builds(name: &'static str, builds: Vec<Build>) -> Line {
+    let with_tables: Vec<_> = builds.into_iter().map(|build| (build.table_octets(2 * build.table.len()), build)).collect();
+    let side = |call: BuildCall| -> Turn {
+        let builds = with_tables.clone();
+        Box::new(move |b| {
+            for (table, what) in &builds {
+                black_box(call(what.head, black_box(table), black_box(&what.values), &mut b.copy, &mut b.answer));
+            }
+        })
+    };
+    Line { name, count: with_tables.len(), sides: [side(trials::build), side(second::build_octets)] }
 }
 
 /// An Echo Request with `3/0` and then so many elements of a type that is not listed, each of `length` octets.
@@ -73,13 +77,42 @@ fn echo(count: usize, length: usize) -> Vec<u8> {
     message
 }
 
-fn main() {
+/// The lines, of so many generated messages and builds; the large messages a fiftieth as often.
+fn lines(count: usize) -> [Line; 5] {
     let mut generator = Generator::new(11);
-    let mix: Vec<_> = (0..10_000).map(|_| generator.case()).map(|case| (case.kind, case.message)).collect();
-    let octets: usize = mix.iter().map(|(_, message)| message.len()).sum();
-    println!("the mix: {} messages, {} octets on average", mix.len(), octets / mix.len());
-    compare("the mix", &mix);
-    compare_clean("the mix, clean alone", &mix);
-    compare("1,021 rows", &vec![(1, echo(1_020, 0)); 200]);
-    compare("one value of 4,075 octets", &vec![(1, echo(1, 4_075)); 200]);
+    let mix: Messages = (0..count).map(|_| generator.case()).map(|case| (case.kind, case.message)).collect();
+    let few = |message: Vec<u8>| vec![(1, message); count.div_ceil(50)];
+    [
+        judge_and_mask("judge and mask, the mix", &mix),
+        judge_and_mask("judge and mask, 1,021 rows", &few(echo(1_020, 0))),
+        judge_and_mask("judge and mask, one value of 4,075 octets", &few(echo(1, 4_075))),
+        clean_alone("clean, the mix", &mix),
+        builds("build, whole and with a fault", (0..count).map(|_| generator.build()).collect()),
+    ]
+}
+
+fn compare(line: &Line, buffers: &mut Buffers) {
+    let mut best = [f64::MAX; 2];
+    for _ in 0..TURNS {
+        for (best, turn) in best.iter_mut().zip(&line.sides) {
+            let began = Instant::now();
+            turn(buffers);
+            *best = best.min(began.elapsed().as_secs_f64());
+        }
+    }
+    let each = 1e9 / line.count as f64;
+    let [ours, theirs] = best;
+    println!("{}: ours {:.0} ns, second {:.0} ns each, ratio {:.2}", line.name, ours * each, theirs * each, theirs / ours);
+}
+
+fn main() {
+    let mut buffers = Buffers { table: vec![0; 2 * 6_136], copy: vec![0; LARGEST], five: vec![0; 10], answer: vec![0; 12] };
+    let words: Vec<String> = std::env::args().skip(1).collect();
+    if let [line, side, turns] = &words[..] {
+        let line = &lines(150)[line.parse::<usize>().expect("a line")];
+        let turn = &line.sides[usize::from(side == "second")];
+        (0..turns.parse().expect("a count")).for_each(|_| turn(&mut buffers));
+        return;
+    }
+    lines(10_000).iter().for_each(|line| compare(line, &mut buffers));
 }

@@ -1,7 +1,7 @@
 //! The library against the second program on many generated messages: `million [COUNT [SEED]]`, 1,000,000 by default. Those that pin the
-//! figures come first.
+//! figures come first. After every fifth message something is built.
 use second::generate::{figures, Generator};
-use trials::difference;
+use trials::{build_difference, difference};
 
 fn main() {
     let mut words = std::env::args().skip(1);
@@ -13,7 +13,8 @@ fn main() {
         turn if turn % 3 == 0 => generator.damaged(),
         _ => generator.case(),
     });
-    let mut differences = 0;
+    let mut builder = Generator::new(!seed);
+    let (mut differences, mut builds) = (0, 0);
     for (turn, case) in figures().into_iter().chain(generated).take(count).enumerate() {
         let [enough, some] = case.buffers(seed.wrapping_add(turn as u64));
         let lent = if turn % 2 == 0 { enough } else { some };
@@ -21,7 +22,16 @@ fn main() {
             differences += 1;
             println!("{what}\n{}", second::lines::case_line(&case));
         }
+        if turn % 5 == 0 {
+            let build = builder.build();
+            let [enough, some] = build.lent(seed.wrapping_add(turn as u64));
+            if let Some(what) = build_difference(&build, if turn % 2 == 0 { enough } else { some }) {
+                differences += 1;
+                println!("{what}\n{}", second::lines::build_line(&build));
+            }
+            builds += 1;
+        }
     }
-    println!("{count} messages, {differences} differences");
+    println!("{count} messages and {builds} builds, {differences} differences");
     std::process::exit(i32::from(differences > 0));
 }

@@ -1,4 +1,5 @@
 -- `put_header` stores four octets. Assumes nothing.
+use Prim.Native.Nat.{_/_, _%_}
 use native.Mathlib.Omega.{arith}
 use lib.ListN.{length-set}
 use Rattle.emitting.proofs.Puts.{four-set}
@@ -40,7 +41,7 @@ same-length : tie.Need-same-length
 same-length c = search needs
 
 returns : tie.Need-returns
-returns c = four-set (c .args .out .now) (c .args .at) (c .args .typ) (c .args .len) (c .args .end) (c .pre .room)
+returns c = four-set (c .args .out .now) (c .args .at) (c .args .typ) (c .args .len / 256) (c .args .len % 256) (c .args .end) (c .pre .room)
 
 pub put-header-spec : {M : Type 1} → statement M
 put-header-spec =

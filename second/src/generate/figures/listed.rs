@@ -179,7 +179,7 @@ impl Figures {
         if self.round % kinds != level.kind as usize % kinds {
             return Vec::new();
         }
-        let other = (self.round / kinds % 4 << 6) as u8;
+        let other = ((self.round / kinds % 4) << 6) as u8;
         classes.map(|class| beside(typ, class, other)).collect()
     }
 

@@ -15,7 +15,8 @@ pub struct Change {
     pub name: String,
     pub rules: Rules,
     pub bears: Bears,
-    pub shown: Shown,
+    /// The comparisons that have to show it, each by itself.
+    pub shown: &'static [Shown],
     /// Why no answer can differ, if none can.
     pub silent: Option<&'static str>,
 }
@@ -29,15 +30,14 @@ pub struct Bears {
     pub standing: Option<usize>,
 }
 
-/// Which comparison has to show it: that of judge, masker and cleaner, that of
-/// the judge program, that of the lookups.
+/// The comparisons: of judge, masker and cleaner, of the judge program, of the
+/// lookups, and of the builder.
 #[derive(Debug, Clone, Copy, PartialEq, Eq)]
 pub enum Shown {
     Octets,
-    OctetsAndProgram,
-    OctetsAndLookups,
     Program,
     Lookups,
+    Builds,
 }
 
 /// All of them.
@@ -111,7 +111,7 @@ impl Changes {
             name,
             rules,
             bears,
-            shown: Shown::Octets,
+            shown: &[Shown::Octets],
             silent: None,
         });
         self.0.last_mut().expect("it was just pushed")
@@ -127,7 +127,7 @@ impl Change {
         self
     }
 
-    fn shown_by(&mut self, shown: Shown) -> &mut Self {
+    fn shown_by(&mut self, shown: &'static [Shown]) -> &mut Self {
         self.shown = shown;
         self
     }

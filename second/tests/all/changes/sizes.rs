@@ -2,7 +2,8 @@
 
 use std::ops::RangeInclusive;
 
-use super::{Changes, Shown, ON_ALL};
+use super::Shown::{self, Builds, Lookups, Octets, Program};
+use super::{Changes, ON_ALL};
 use second::{Rules, DOCUMENT};
 
 /// The range with one of its ends moved by one.
@@ -59,22 +60,26 @@ impl Changes {
             self.push("sizes", name, ON_ALL, |rules| rules.sizes.remnant = remnant);
         }
         for t in 0..2 {
-            self.size("header", Shown::Octets, |rules| &mut rules.sizes.header[t]);
-            self.size("body", Shown::Octets, |rules| &mut rules.sizes.body[t]);
+            self.size("header", &[Octets], |rules| &mut rules.sizes.header[t]);
+            self.size("body", &[Octets], |rules| &mut rules.sizes.body[t]);
         }
-        let (octets, program) = (Shown::Octets, Shown::OctetsAndProgram);
-        self.size("uncounted", octets, |rules| &mut rules.sizes.uncounted);
-        self.size("longest", program, |rules| &mut rules.sizes.longest);
-        self.size("five", octets, |rules| &mut rules.sizes.five);
-        self.size("answer", octets, |rules| &mut rules.sizes.answer);
+        self.size("uncounted", &[Octets, Builds], |rules| {
+            &mut rules.sizes.uncounted
+        });
+        self.size("longest", &[Octets, Program, Builds], |rules| {
+            &mut rules.sizes.longest
+        });
+        self.size("five", &[Octets], |rules| &mut rules.sizes.five);
+        self.size("answer", &[Octets, Builds], |rules| &mut rules.sizes.answer);
     }
 
     fn of_table(&mut self) {
-        let lookups = Shown::OctetsAndLookups;
-        self.size("header numbers", lookups, |rules| {
+        self.size("header numbers", &[Octets, Lookups, Builds], |rules| {
             &mut rules.sizes.table_header
         });
-        self.size("numbers a row", lookups, |rules| &mut rules.sizes.row);
+        self.size("numbers a row", &[Octets, Lookups, Builds], |rules| {
+            &mut rules.sizes.row
+        });
         let most_rows = |rules: &mut Rules, by| {
             let rows = &mut rules.sizes.most_rows;
             *rows = rows.saturating_add_signed(by);
@@ -82,16 +87,21 @@ impl Changes {
         self.push("sizes", "most rows less".into(), ON_ALL, |rules| {
             most_rows(rules, -1)
         })
-        .shown_by(Shown::Program);
+        .shown_by(&[Program]);
         self.push("sizes", "most rows more".into(), ON_ALL, |rules| {
             most_rows(rules, 1)
         })
-        .shown_by(Shown::Program)
+        .shown_by(&[Program])
         .silent_where(true, "no message has more elements than that");
     }
 
     /// A figure by one either way.
-    fn size(&mut self, name: &str, shown: Shown, figure: impl Fn(&mut Rules) -> &mut usize) {
+    fn size(
+        &mut self,
+        name: &str,
+        shown: &'static [Shown],
+        figure: impl Fn(&mut Rules) -> &mut usize,
+    ) {
         for by in [-1, 1] {
             let name = format!("{name} by {by}");
             let change = self.push("sizes", name, ON_ALL, |rules| {

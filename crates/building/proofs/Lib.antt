@@ -1,0 +1,3 @@
+pub mod Wholes
+pub mod Makes
+pub mod Builds
