@@ -6,7 +6,7 @@ use Prim.Native.Nat.{ℕ}
 use lib.Dec.{ltb}
 use lib.ListN.{length}
 use Rattle.rules.specs.Types.{groups, isGroup}
-use Rattle.rules.specs.Listings.{allKinds, levels, messages, book, seek, seekMessage, listing, messageOf}
+use Rattle.rules.specs.Listings.{Line, allKinds, levels, messages, book, seek, seekMessage, listing, messageOf}
 use Rattle.rules.specs.Sound.{everyLine, clash, distinct, everyLevel, everyMessage, sound}
 
 pub book-sound : sound book ≡ true
@@ -21,3 +21,13 @@ listedIn message t i k = ltb (seek (listing book (messageOf book message .body))
 pub one-of-two : map (λ (k : ℕ). Bool·beq (listedIn 66 180 1 k) (not (listedIn 67 180 1 k))) allKinds ≡ true ∷ true ∷ true ∷ []
 unfolding book levels messages seek seekMessage listing messageOf
 one-of-two = refl
+
+-- type and instance of the mandatory lines, in their order
+unfoldable pub mandatory : List Line → List (List ℕ)
+mandatory [] = []
+mandatory (l ∷ ls) = cond (l .must) ((l .typ ∷ l .inst ∷ []) ∷ mandatory ls) (mandatory ls)
+
+-- in the body of 32 these four
+pub must-of-32 : mandatory (listing book (messageOf book 32 .body)) ≡ (82 ∷ 0 ∷ []) ∷ (87 ∷ 0 ∷ []) ∷ (71 ∷ 0 ∷ []) ∷ (93 ∷ 0 ∷ []) ∷ []
+unfolding mandatory book levels messages seekMessage listing messageOf
+must-of-32 = refl

@@ -95,20 +95,20 @@ levels =
     []) ∷
     -- level 2: 32 Create Session Request
     body (
-    must (pair 1 0) ∷
+    pair 1 0 ∷
     pair 76 0 ∷
     pair 75 0 ∷
     pair 86 0 ∷
     pair 83 0 ∷
     must (pair 82 0) ∷
-    must (pair 77 0) ∷
+    pair 77 0 ∷
     must (pair 87 0) ∷
     pair 87 1 ∷
-    pair 71 0 ∷
+    must (pair 71 0) ∷
     pair 128 0 ∷
-    must (pair 99 0) ∷
+    pair 99 0 ∷
     pair 79 0 ∷
-    must (pair 127 0) ∷
+    pair 127 0 ∷
     pair 72 0 ∷
     pair 78 0 ∷
     must (many (group 93 0 in-93/0-of-32)) ∷

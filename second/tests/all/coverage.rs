@@ -238,7 +238,7 @@ fn rows_set_aside_in_the_figures() {
 
 #[test]
 fn rows_set_aside_in_the_mix() {
-    assert_set_aside(Generator::new(62).take(10_000), 20);
+    assert_set_aside(Generator::new(62).take(10_000), AT_LEAST);
 }
 
 /// What is expected of one line of a listing.

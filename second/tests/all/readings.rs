@@ -5,10 +5,10 @@ use second::{judge, mask, Verdict, DOCUMENT};
 
 const CONTEXT: &str = "5D 00 05 00 49 00 01 00 05";
 const OVERLOAD: &str = "B7 00 04 00 00 00 00 01 B6 00 01 00 0A 9C 00 01 00 05";
-/// The mandatory pairs of a Create Session Request, 81 octets with the header:
-/// 1 at 12, 82 at 17, 77 at 22, 87 at 27, 99 at 36, 127 at 41, 93 at 46.
-const SESSION: &str = "01 00 01 00 21 52 00 01 00 06 4D 00 01 00 00 57 00 05 00 0A 00 00 00 01 \
-                       63 00 01 00 01 7F 00 01 00 00 5D 00 1F 00 49 00 01 00 05 50 00 16 00 \
+/// An IMSI and the mandatory pairs of a Create Session Request, 71 octets with the
+/// header: 1 at 12, 82 at 17, 87 at 22, 71 at 31, 93 at 36.
+const SESSION: &str = "01 00 01 00 21 52 00 01 00 06 57 00 05 00 0A 00 00 00 01 47 00 01 00 00 \
+                       5D 00 1F 00 49 00 01 00 05 50 00 16 00 \
                        01 02 03 04 05 06 07 08 09 0A 0B 0C 0D 0E 0F 10 11 12 13 14 15 16";
 
 fn join(parts: &[&str]) -> String {
@@ -237,27 +237,55 @@ fn mandatory_pairs_of_a_create_session_request() {
     let whole = octets(SESSION);
     assert_eq!(five(1, &message(32, SESSION)), [0; 5]);
     // Start and end of each body element in SESSION, in listing order.
-    let elements = [
-        (1, 0, 5),
-        (82, 5, 10),
-        (77, 10, 15),
-        (87, 15, 24),
-        (99, 24, 29),
-        (127, 29, 34),
-        (93, 34, 69),
-    ];
-    assert_eq!(whole.len(), 69);
+    let elements = [(82, 5, 10), (87, 10, 19), (71, 19, 24), (93, 24, 59)];
+    assert_eq!(whole.len(), 59);
     for (typ, start, end) in elements {
         let rest = [&whole[..start], &whole[end..]].concat();
         let body = second::lines::hex(&rest);
         assert_eq!(five(1, &message(32, &body)), [12, 70, 0, typ, 0], "{typ}");
     }
+    // With all that follow left out too, it is still the first that is told.
+    for (typ, start, _) in elements {
+        let body = second::lines::hex(&whole[..start]);
+        assert_eq!(five(1, &message(32, &body)), [12, 70, 0, typ, 0], "{typ}");
+    }
+}
+
+#[test]
+fn a_visitor_without_an_imsi_is_let_in() {
+    let without = second::lines::hex(&octets(SESSION)[5..]);
+    for kind in 1..=3 {
+        assert_eq!(five(kind, &message(32, &without)), [0; 5]);
+    }
+    // In 97 the IMSI is mandatory as before.
+    let update = "5D 00 05 00 49 00 01 00 05 48 00 08 00 00 00 00 00 00 00 00 00";
+    assert_eq!(five(1, &message(97, update)), [12, 70, 0, 1, 0]);
+}
+
+#[test]
+fn short_ones_of_a_create_session_request() {
+    let without = second::lines::hex(&octets(SESSION)[5..]);
+    for pair in ["01 00 00 00", "4D 00 00 00", "63 00 00 00", "7F 00 00 00"] {
+        let short = message(32, &join(&[pair, &without]));
+        assert_eq!(standings(1, &short), [3, 0, 0, 0, 0, 0, 0]);
+        // A good one after it is a repeat.
+        let good = pair.replacen("00 00 00", "00 01 00 21", 1);
+        let twice = message(32, &join(&[pair, &good, &without]));
+        assert_eq!(standings(1, &twice), [3, 2, 0, 0, 0, 0, 0, 0]);
+    }
+    let empty_apn = SESSION.replace("47 00 01 00 00", "47 00 00 00");
+    assert_eq!(five(1, &message(32, &empty_apn)), [11, 67, 31, 71, 0]);
+    // As a repeat it is no refusal, and in front it is one.
+    let last = message(32, &join(&[SESSION, "47 00 00 00"]));
+    assert_eq!(standings(1, &last), [0, 0, 0, 0, 0, 0, 0, 2]);
+    let first = message(32, &join(&["47 00 00 00", SESSION]));
+    assert_eq!(five(1, &first), [11, 67, 12, 71, 0]);
 }
 
 #[test]
 fn an_optional_group_has_its_own_mandatory_pairs() {
     let removed = join(&[SESSION, "5D 00 00 01"]);
-    assert_eq!(five(1, &message(32, &removed)), [12, 70, 81, 73, 0]);
+    assert_eq!(five(1, &message(32, &removed)), [12, 70, 71, 73, 0]);
     let third = join(&[SESSION, "5D 00 00 02"]);
     assert_eq!(five(1, &message(32, &third)), [0; 5]);
 }

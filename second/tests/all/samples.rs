@@ -200,7 +200,8 @@ fn counts_of_the_realistic_samples() {
         ("update-bearer-request", 12, 12),
         ("echo-request", 2, 2),
         ("echo-response", 2, 2),
-        ("fteid-one-octet-in-context", 10, 9),
+        ("create-session-request-emergency", 7, 7),
+        ("fteid-one-octet-in-context", 11, 10),
         ("set-aside-at-both-levels", 12, 6),
     ];
     for (name, rows, kept) in cases {
