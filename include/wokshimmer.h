@@ -57,9 +57,9 @@ extern "C" {
 /* Sizes. A number of the table or of the five is two octets, high octet first. */
 #define WOK_LARGEST_MESSAGE 4096u /* octets */
 #define WOK_MOST_ROWS 1022u       /* rows of a message of that size */
-#define WOK_HEADER_NUMBERS 4u     /* rows; rows kept; where the first row starts, 4; how many numbers are used, 4 + 6 a row */
+#define WOK_HEADER_NUMBERS 6u     /* rows; rows kept; where the first row starts, 6; how many numbers are used, 6 + 6 a row; message type; kind */
 #define WOK_ROW_NUMBERS 6u        /* parent (0, or a row counted from 1), type, instance, value place, value length, standing */
-#define WOK_TABLE_OCTETS 12272u   /* a table that holds 1,022 rows: 2 * (4 + 6 * 1,022) */
+#define WOK_TABLE_OCTETS 12276u   /* a table that holds 1,022 rows: 2 * (6 + 6 * 1,022) */
 #define WOK_FIVE_OCTETS 10u       /* code, cause, place, type, instance */
 #define WOK_ANSWER_OCTETS 12u     /* clean, build: the five numbers, and the length of what was written */
 #define WOK_LARGEST_SEQUENCE 16777215u
@@ -95,22 +95,22 @@ uint16_t wok_mask(uint32_t kind, const uint8_t *message, size_t message_len, uin
 uint16_t wok_clean(uint32_t kind, const uint8_t *message, size_t message_len, uint8_t *clean, size_t clean_len, uint8_t *answer, size_t answer_len);
 
 /*
- * Builds a message, to send: from a kind, a message type, a TEID (which types 1 and 2 do not carry), a sequence number, a table as the judge
- * lays it, and a buffer that the rows' values lie in, at their places. A group's place and length are not looked at but worked out from the rows
- * inside it; ignored bits are zero. A table for n rows starts with n, n, 4, 4 + 6 * n.
- * Answers the code, the first that applies: 1; 7;
- *   14: fewer numbers are lent than a header has, or than it says are used; the header is not that of its rows; a row's parent is neither 0 nor a
+ * Builds a message, to send: from a TEID (which types 1 and 2 do not carry), a sequence number, a table as the judge lays it, which says message
+ * type and kind, and a buffer that the rows' values lie in, at their places. A group's place and length are not looked at but worked out from the
+ * rows inside it; ignored bits are zero. A table for n rows starts with n, n, 6, 6 + 6 * n, type, kind.
+ * Answers the code, the first that applies: 14 where fewer numbers are lent than a header has; 1; 7;
+ *   14: fewer numbers are lent than the header says are used; the header is not that of its rows; a row's parent is neither 0 nor a
  *       group that is open where the row stands (the row before, or one that it stands in); a row is not WOK_KEPT; its type does not fit in eight
  *       bits, its instance in four, or the sequence number in 24; a value that is no group's ends outside the buffer, be it empty;
  *   15: it is longer than WOK_LARGEST_MESSAGE, or than the room;
  *   16: the judge, lent enough, refuses it or sets a row of it aside;
- * or 0 where it is built. What is built, judged on the same kind, is accepted, with the same parents, types, instances and values. And a message
+ * or 0 where it is built. What is built, judged on the table's kind, is accepted, with the same parents, types, instances and values. And a message
  * that is accepted with every row kept and has no ignored bit set is what is built of its own header and table, with the message lent as the
  * buffer of values.
  * Octets past the message stay; on a refusal the whole room stays as it was. The five numbers and the message's length as in wok_clean.
  */
-uint16_t wok_build(uint32_t kind, uint32_t type, uint32_t teid, uint32_t sequence, const uint8_t *table, size_t table_len, const uint8_t *values,
-                   size_t values_len, uint8_t *room, size_t room_len, uint8_t *answer, size_t answer_len);
+uint16_t wok_build(uint32_t teid, uint32_t sequence, const uint8_t *table, size_t table_len, const uint8_t *values, size_t values_len, uint8_t *room,
+                   size_t room_len, uint8_t *answer, size_t answer_len);
 
 #ifdef __cplusplus
 }

@@ -19,6 +19,7 @@
 #define SMALL_MESSAGE 264u
 #define LEAST_LEFT 1024u /* octets of the stack that no call may write */
 #define MOST_A_LEVEL 512u
+#define USED 3u /* the header's number that says how many are used */
 
 enum { JUDGE, MASK, CLEAN, BUILD, FUNCTIONS };
 
@@ -30,7 +31,7 @@ static const size_t said[FUNCTIONS] = {15 * 1024, 15 * 1024, 15 * 1024, 18 * 102
 
 /* What the builder has besides, of the message that it is to make again. */
 struct head {
-    uint32_t type, teid, sequence;
+    uint32_t teid, sequence;
     const uint8_t *table;
     size_t table_len;
 };
@@ -86,7 +87,7 @@ static void *on_small_stack(void *argument) {
     struct call *c = argument;
     volatile uint8_t frame = 0;
     if (c->which == BUILD)
-        c->code = wok_build(c->kind, head.type, head.teid, head.sequence, head.table, head.table_len, c->message, c->message_len, c->out, c->out_len,
+        c->code = wok_build(head.teid, head.sequence, head.table, head.table_len, c->message, c->message_len, c->out, c->out_len,
                             c->numbers, c->numbers_len);
     else
         c->code = functions[c->which](c->kind, c->message, c->message_len, c->out, c->out_len, c->numbers, c->numbers_len);
@@ -167,7 +168,7 @@ static void judge_exact(const struct given *g, const unsigned five[5]) {
     struct call c = on_exact(JUDGE, g, WOK_TABLE_OCTETS, WOK_FIVE_OCTETS);
     check_call(g->name, &c, five, WOK_TABLE_OCTETS);
     if (c.code != WOK_ACCEPTED) return;
-    size_t used = 2 * number(c.out, WOK_HEADER_NUMBERS - 1);
+    size_t used = 2 * number(c.out, USED);
     check(used == 2 * (WOK_HEADER_NUMBERS + WOK_ROW_NUMBERS * number(c.out, 0)), g->name, "numbers used do not match the rows");
     check(rest_stays(out_room, c.out, used), g->name, "a write past the numbers used");
     if (used > WOK_TABLE_OCTETS) return;
@@ -233,7 +234,7 @@ static void take_head(const struct given *g, const uint8_t *table, size_t len) {
     uint8_t *own = exact(table_room, len, g->at_end);
     memcpy(own, table, len);
     if (mprotect(table_room, ROOM, PROT_READ) != 0) fail("read only");
-    head = (struct head){g->message[1], t ? big_endian(g->message + 4, 4) : 0, big_endian(g->message + (t ? 8 : 4), 3), own, len};
+    head = (struct head){t ? big_endian(g->message + 4, 4) : 0, big_endian(g->message + (t ? 8 : 4), 3), own, len};
 }
 
 /* An accepted message, built again from its own table: itself but for bits that nothing reads, in a room of its length and no shorter one; and 14
@@ -243,7 +244,7 @@ static void build_exact(const struct given *g, const unsigned five[5]) {
     static uint8_t table[WOK_TABLE_OCTETS];
     struct call c = on_exact(JUDGE, g, WOK_TABLE_OCTETS, WOK_FIVE_OCTETS);
     if (c.code != WOK_ACCEPTED) return;
-    size_t used = 2 * number(c.out, WOK_HEADER_NUMBERS - 1);
+    size_t used = 2 * number(c.out, USED);
     memcpy(table, c.out, used);
     take_head(g, table, used - 1);
     try_call(BUILD, g, g->len, no_table, 0);
@@ -368,8 +369,8 @@ static void try_nulls(void) {
         try_null(which, echo, sizeof echo, 1, 0, WOK_ACCEPTED, "NULL for the numbers");
         try_null(which, NULL, 0, 0, 0, WOK_BAD_SIZE, "NULL for all");
     }
-    static const uint8_t table[] = {0, 1, 0, 1, 0, 4, 0, 10, 0, 0, 0, 3, 0, 0, 0, 12, 0, 1, 0, 0};
-    head = (struct head){1, 0, 1, table, sizeof table};
+    static const uint8_t table[] = {0, 1, 0, 1, 0, 6, 0, 12, 0, 1, 0, 1, 0, 0, 0, 3, 0, 0, 0, 12, 0, 1, 0, 0};
+    head = (struct head){0, 1, table, sizeof table};
     try_null(BUILD, NULL, 0, 1, 1, WOK_NO_TABLE, "NULL for the values");
     try_null(BUILD, echo, sizeof echo, 0, 1, WOK_TOO_LARGE, "NULL for the room");
     try_null(BUILD, echo, sizeof echo, 1, 0, WOK_ACCEPTED, "NULL for the numbers");

@@ -7,8 +7,6 @@ use std::os::raw::c_uint;
 
 extern "C" {
     fn wok_build(
-        kind: c_uint,
-        typ: c_uint,
         teid: c_uint,
         sequence: c_uint,
         table: *const u8,
@@ -47,7 +45,7 @@ pub fn message(text: &str) -> Result<Vec<u8>, Refused> {
     }
     short_enough(&text).map_err(|f| Refused::Message(vec![f]))?;
     let mut room = vec![0; LARGEST];
-    let (table, values) = table(&text.elements);
+    let (table, values) = table(&text);
     match build(&text, &table, &values, &mut room) {
         Ok(length) => {
             room.truncate(length);
@@ -59,13 +57,11 @@ pub fn message(text: &str) -> Result<Vec<u8>, Refused> {
 
 /// The message over the start of the room, and its length; or the code of the refusal.
 fn build(text: &Text, table: &[u8], values: &[u8], room: &mut [u8]) -> Result<usize, u16> {
-    let (kind, typ, teid, sequence) = (text.kind.1 .0, text.typ.1.into(), text.teid.map_or(0, |t| t.1), text.sequence.1);
+    let (teid, sequence) = (text.teid.map_or(0, |t| t.1), text.sequence.1);
     let mut answer = [0u8; 12];
     // SAFETY: each pointer is valid for the length beside it, and the buffers overlap nothing.
     let code = unsafe {
         wok_build(
-            kind,
-            typ,
             teid,
             sequence,
             table.as_ptr(),
@@ -85,11 +81,11 @@ fn build(text: &Text, table: &[u8], values: &[u8], room: &mut [u8]) -> Result<us
     }
 }
 
-/// The table of elements, two octets a number, and the buffer of their values. What is short enough fits in such numbers.
-fn table(elements: &[Element]) -> (Vec<u8>, Vec<u8>) {
-    let (rows, mut values) = (elements.len(), vec![]);
-    let mut numbers = vec![rows, rows, 4, 4 + 6 * rows];
-    for e in elements {
+/// The table of a text, two octets a number, and the buffer of its values. What is short enough fits in such numbers.
+fn table(text: &Text) -> (Vec<u8>, Vec<u8>) {
+    let (rows, mut values) = (text.elements.len(), vec![]);
+    let mut numbers = vec![rows, rows, 6, 6 + 6 * rows, text.typ.1.into(), text.kind.1 .0 as usize];
+    for e in &text.elements {
         let value = e.value.as_deref().unwrap_or(&[]);
         numbers.extend([e.parent, e.typ.into(), e.instance.into(), values.len(), value.len(), 0]);
         values.extend(value);
@@ -102,7 +98,7 @@ fn table(elements: &[Element]) -> (Vec<u8>, Vec<u8>) {
 pub fn is_group(typ: u8) -> bool {
     let inside = |parent, typ| Element { line: 0, parent, typ, instance: 0, value: None };
     let text = Text { kind: (0, (1, "S11")), typ: (0, 1), teid: None, sequence: (0, 0), elements: vec![inside(0, typ), inside(1, typ)] };
-    let (table, values) = table(&text.elements);
+    let (table, values) = table(&text);
     build(&text, &table, &values, &mut []) != Err(14)
 }
 

@@ -11,7 +11,7 @@ extern "C" {
 }
 
 /// A table with room for 1,022 rows.
-const TABLE: usize = 12272;
+const TABLE: usize = 12276;
 /// A page on any message fits, with values cut.
 const PAGE: usize = 163840;
 
@@ -64,7 +64,7 @@ impl Library {
             return Judged { five, rows: vec![], kept: 0 };
         }
         let table = &self.table;
-        let row = |i: usize| std::array::from_fn(|j| number(table, 4 + 6 * i + j));
+        let row = |i: usize| std::array::from_fn(|j| number(table, 6 + 6 * i + j));
         Judged { five, rows: (0..number(table, 0) as usize).map(row).collect(), kept: number(table, 1) }
     }
 

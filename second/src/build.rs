@@ -1,41 +1,50 @@
-//! The builder: a message from a table and a buffer of values.
+//! The builder: a message from a table and a buffer of values. What kind and
+//! message type it is, the table's header says.
 //!
 //! A group's rows come after it. So the lengths are added up from the last row
 //! back to the first, and then the octets are written from the first row on.
 
 use crate::checks::fault;
 use crate::framing::ELEMENT_HEADER;
-use crate::lookup::Entry;
-use crate::rules::{Check, Message, Rules, Standing};
+use crate::rules::{Check, Message, Rules, Standing, Told};
+use crate::table::Entry;
 use crate::verdict::Answer;
 
-/// What a message has before its elements, and the kind that it is built for.
+/// What a message has before its elements and no table tells.
 #[derive(Debug, Clone, Copy, PartialEq, Eq)]
 pub struct Head {
-    pub kind: u32,
-    pub typ: u32,
     pub teid: u32,
     pub sequence: u32,
 }
+
+/// Octets of a header without a TEID, and of the TEID.
+const HEADER: usize = 8;
+const TEID: usize = 4;
 
 impl Rules {
     /// Writes the message of these rows. Nothing is written on a refusal, and
     /// room past the message stays.
     pub fn build(&self, head: Head, table: &[u16], values: &[u8], room: &mut [u8]) -> Answer {
-        let listed = self.listed(head);
-        let rows = self.entries(table);
+        let kind = self.told(table, Told::Kind).map(u32::from);
+        let kind = kind.filter(|kind| self.kinds.contains(kind));
+        let listed = self.listed(table);
+        let rows = self.entries(table).unwrap_or_default();
         let sound = self.is_sound(head, table, &rows, values);
-        let need = self.built_length(head, &rows);
+        let need = self.built_length(listed, &rows);
         // Only what could be a message is put together and judged.
         let message = match listed {
-            Some(_) if sound && need <= self.sizes.longest => self.octets(head, &rows, values),
+            Some(listed) if sound && need <= self.sizes.longest => {
+                self.octets(listed, head, &rows, values)
+            }
             _ => Vec::new(),
         };
-        let faults = fault(Check::Kind, !self.kinds.contains(&head.kind))
+        let is_kept = kind.is_some_and(|kind| self.is_all_kept(kind, &message));
+        let faults = fault(Check::TableHeader, table.len() < self.sizes.table_header)
+            | fault(Check::Kind, kind.is_none())
             | fault(Check::Type, listed.is_none())
             | fault(Check::Table, !sound)
             | fault(Check::Room, need > self.sizes.longest.min(room.len()))
-            | fault(Check::Built, !self.is_all_kept(head.kind, &message));
+            | fault(Check::Built, !is_kept);
         if let Some(check) = self.checks.build.first(faults) {
             return Answer::refused(self.refusal(check));
         }
@@ -45,18 +54,15 @@ impl Rules {
 
     /// How many octets the message of this table would have, if its rows can be
     /// read.
-    pub fn build_need(&self, head: Head, table: &[u16]) -> usize {
-        self.built_length(head, &self.entries(table))
+    pub fn build_need(&self, table: &[u16]) -> usize {
+        let rows = self.entries(table).unwrap_or_default();
+        self.built_length(self.listed(table), &rows)
     }
 
-    fn listed(&self, head: Head) -> Option<&Message> {
-        self.message_of(u8::try_from(head.typ).ok()?)
-    }
-
-    /// All rows of a table; none where it is shorter than it says.
-    fn entries(&self, table: &[u16]) -> Vec<Entry> {
-        let rows = 0..self.count(table).unwrap_or(0);
-        rows.map_while(|row| self.entry(table, row)).collect()
+    /// The listed message of the type that the header tells.
+    fn listed(&self, table: &[u16]) -> Option<&Message> {
+        let typ = self.told(table, Told::Type)?;
+        self.message_of(u8::try_from(typ).ok()?)
     }
 
     /// Is there nothing in the table, the values and the sequence number that
@@ -66,17 +72,6 @@ impl Rules {
             && self.stands_depth_first(rows)
             && rows.iter().all(|row| self.takes(row, values))
             && head.sequence <= self.builds.sequence
-    }
-
-    /// Does the header of a table that is long enough agree with its rows?
-    fn agrees(&self, table: &[u16], rows: &[Entry]) -> bool {
-        let (Some(count), &[_, kept, first, used, ..]) = (self.count(table), table) else {
-            return false;
-        };
-        let is_kept = |row: &&Entry| row.standing == self.builds.standing;
-        usize::from(kept) == rows.iter().filter(is_kept).count()
-            && usize::from(first) == self.sizes.table_header
-            && usize::from(used) == self.used(count)
     }
 
     /// Is each parent the message, or a group that is the row just before or
@@ -108,9 +103,14 @@ impl Rules {
     }
 
     /// The header, and every row with its value.
-    fn built_length(&self, head: Head, rows: &[Entry]) -> usize {
+    fn built_length(&self, listed: Option<&Message>, rows: &[Entry]) -> usize {
         let elements = rows.iter().map(|row| ELEMENT_HEADER + self.own_length(row));
-        self.header_octets(head).len() + elements.sum::<usize>()
+        // A type that is not listed would have a TEID, as most do.
+        let header = match listed {
+            Some(Message { teid: false, .. }) => HEADER,
+            _ => HEADER + TEID,
+        };
+        header + elements.sum::<usize>()
     }
 
     /// The octets of a row's own value; those of a group are its rows.
@@ -132,11 +132,10 @@ impl Rules {
     }
 
     /// The header with no length yet. Bits that nothing reads are zero.
-    fn header_octets(&self, head: Head) -> Vec<u8> {
-        let teid = self.listed(head).is_none_or(|listed| listed.teid);
-        let flags = self.bits.version << 5 | if teid { self.bits.teid } else { 0 };
-        let mut octets = vec![flags, head.typ as u8, 0, 0];
-        if teid {
+    fn header_octets(&self, listed: &Message, head: Head) -> Vec<u8> {
+        let teid = if listed.teid { self.bits.teid } else { 0 };
+        let mut octets = vec![self.bits.version << 5 | teid, listed.typ, 0, 0];
+        if listed.teid {
             octets.extend(head.teid.to_be_bytes());
         }
         octets.extend((head.sequence << 8).to_be_bytes());
@@ -144,9 +143,9 @@ impl Rules {
     }
 
     /// The message of rows that are sound.
-    fn octets(&self, head: Head, rows: &[Entry], values: &[u8]) -> Vec<u8> {
+    fn octets(&self, listed: &Message, head: Head, rows: &[Entry], values: &[u8]) -> Vec<u8> {
         let lengths = self.lengths(rows);
-        let mut octets = self.header_octets(head);
+        let mut octets = self.header_octets(listed, head);
         let following = octets.len() + lengths[0] - self.sizes.uncounted;
         octets[2..4].copy_from_slice(&(following as u16).to_be_bytes());
         for (row, length) in rows.iter().zip(&lengths[1..]) {

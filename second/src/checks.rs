@@ -81,7 +81,8 @@ impl<'r> Header<'r> {
         let flags = message.first().copied().unwrap_or(bits.version << 5);
         // T as it is found, which is not always the T that the type wants.
         let teid = flags & bits.teid != 0;
-        let listed = message.get(1).and_then(|&typ| rules.message_of(typ));
+        let typ = message.get(sizes.type_octet);
+        let listed = typ.and_then(|&typ| rules.message_of(typ));
         // A type that is not listed would want T = 1, as most do.
         let wants_teid = listed.is_none_or(|listed| listed.teid);
         let counted = match *message {

@@ -7,7 +7,7 @@ mod types;
 use std::cmp::Ordering;
 use std::sync::LazyLock;
 
-use crate::rules::{Bits, Builds, Check, Checks, Lookups, Order, Rules, Sizes, CODES};
+use crate::rules::{Bits, Builds, Check, Checks, Lookups, Order, Rules, Sizes, Table, Told, CODES};
 
 pub static DOCUMENT: LazyLock<Rules> = LazyLock::new(|| Rules {
     kinds: 1..=3,
@@ -20,6 +20,7 @@ pub static DOCUMENT: LazyLock<Rules> = LazyLock::new(|| Rules {
         instance: 0x0F,
     },
     sizes: sizes(),
+    table: table(),
     checks: checks(),
     cleaned: [true, false, false, false],
     builds: Builds {
@@ -41,12 +42,28 @@ fn sizes() -> Sizes {
         header: [8, 12],
         body: [8, 12],
         uncounted: 4,
+        type_octet: 1,
         remnant: 1..=3,
-        table_header: 4,
+        table_header: 6,
+        first_row: 6,
         row: 6,
         five: 10,
         answer: 12,
         most_rows: 1022,
+    }
+}
+
+fn table() -> Table {
+    Table {
+        header: vec![
+            Told::Rows,
+            Told::Kept,
+            Told::First(6),
+            Told::Used { beside: 6, row: 6 },
+            Told::Type,
+            Told::Kind,
+        ],
+        kept: 0,
     }
 }
 
@@ -69,7 +86,7 @@ fn checks() -> Checks {
         judge: Order::new(&[&framing[..], &[TableRoom, Short, Missing]].concat()),
         mask: Order::new(&[&framing[..], &[CopyRoom]].concat()),
         clean: Order::new(&[&framing[..], &[Short, Missing, CopyRoom]].concat()),
-        build: Order::new(&[Kind, Type, Table, Room, Built]),
+        build: Order::new(&[TableHeader, Kind, Type, Table, Room, Built]),
         causes,
     }
 }

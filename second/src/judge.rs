@@ -10,7 +10,7 @@ impl Rules {
     pub fn judge(&self, kind: u32, message: &[u8], table: &mut [u16]) -> Verdict {
         match self.accepted_rows(kind, message, table.len()) {
             Ok(rows) => {
-                self.write_table(&rows, table);
+                self.write_table(kind, message, &rows, table);
                 Verdict::ACCEPTED
             }
             Err(refusal) => refusal,

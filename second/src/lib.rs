@@ -75,31 +75,39 @@ pub fn build_octets(
 }
 
 /// The plain lookup; the empty part where there is none.
-pub fn plain<'a>(typ: u16, inst: u16, message: &'a [u8], table: &[u16]) -> &'a [u8] {
-    let part = DOCUMENT.plain_part(typ, inst, message, table);
+pub fn plain<'a>(kind: u32, typ: u16, inst: u16, message: &'a [u8], table: &[u16]) -> &'a [u8] {
+    let part = DOCUMENT.plain_part(kind, typ, inst, message, table);
     part.unwrap_or_default()
 }
 
 /// Does the plain lookup answer a row's part, be it empty?
-pub fn plain_found(typ: u16, inst: u16, message: &[u8], table: &[u16]) -> bool {
-    let part = DOCUMENT.plain_part(typ, inst, message, table);
+pub fn plain_found(kind: u32, typ: u16, inst: u16, message: &[u8], table: &[u16]) -> bool {
+    let part = DOCUMENT.plain_part(kind, typ, inst, message, table);
     part.is_some()
 }
 
 /// The desk's lookup; the empty part where there is none.
 pub fn desk<'a>(
+    kind: u32,
     row: usize,
     right: bool,
     message: &'a [u8],
     copy: &'a [u8],
     table: &[u16],
 ) -> &'a [u8] {
-    let part = DOCUMENT.desk_part(row, right, message, copy, table);
+    let part = DOCUMENT.desk_part(kind, row, right, message, copy, table);
     part.unwrap_or_default()
 }
 
 /// Does the desk's lookup answer a row's part, be it empty?
-pub fn desk_found(row: usize, right: bool, message: &[u8], copy: &[u8], table: &[u16]) -> bool {
-    let part = DOCUMENT.desk_part(row, right, message, copy, table);
+pub fn desk_found(
+    kind: u32,
+    row: usize,
+    right: bool,
+    message: &[u8],
+    copy: &[u8],
+    table: &[u16],
+) -> bool {
+    let part = DOCUMENT.desk_part(kind, row, right, message, copy, table);
     part.is_some()
 }

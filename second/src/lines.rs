@@ -3,14 +3,14 @@
 //! A case is `KIND HEX`. A lookup is one of
 //!
 //! ```text
-//! plain TYPE INSTANCE MESSAGE TABLE
-//! desk ROW RIGHT MESSAGE COPY TABLE
+//! plain KIND TYPE INSTANCE MESSAGE TABLE
+//! desk KIND ROW RIGHT MESSAGE COPY TABLE
 //! ```
 //!
 //! and what a builder is given is
 //!
 //! ```text
-//! build KIND TYPE TEID SEQUENCE TABLE VALUES
+//! build TEID SEQUENCE TABLE VALUES
 //! ```
 //!
 //! with blanks between the fields. RIGHT is `1` for yes and `0` for no, MESSAGE,
@@ -59,24 +59,20 @@ pub fn case_line(case: &Case) -> String {
 }
 
 pub fn build_line(build: &Build) -> String {
-    let Head {
-        kind,
-        typ,
-        teid,
-        sequence,
-    } = build.head;
+    let Head { teid, sequence } = build.head;
     let (table, values) = (table_field(&build.table), hex_field(&build.values));
-    format!("build {kind} {typ} {teid} {sequence} {table} {values}")
+    format!("build {teid} {sequence} {table} {values}")
 }
 
 pub fn lookup_line(lookup: &Lookup) -> String {
+    let kind = lookup.kind;
     let message = hex_field(&lookup.message);
     let table = table_field(&lookup.table);
     match lookup.ask {
-        Ask::Plain { typ, inst } => format!("plain {typ} {inst} {message} {table}"),
+        Ask::Plain { typ, inst } => format!("plain {kind} {typ} {inst} {message} {table}"),
         Ask::Desk { row, right } => {
-            let copy = hex_field(&lookup.copy);
-            format!("desk {row} {} {message} {copy} {table}", u8::from(right))
+            let (right, copy) = (u8::from(right), hex_field(&lookup.copy));
+            format!("desk {kind} {row} {right} {message} {copy} {table}")
         }
     }
 }
@@ -92,7 +88,8 @@ pub fn answer_line(rules: &Rules, lookup: &Lookup) -> String {
 pub fn lookup(line: &str) -> Result<Lookup, String> {
     let fields = line.split_ascii_whitespace().collect::<Vec<_>>();
     match fields[..] {
-        ["plain", typ, inst, message, table] => Ok(Lookup {
+        ["plain", kind, typ, inst, message, table] => Ok(Lookup {
+            kind: number(kind)?,
             ask: Ask::Plain {
                 typ: number(typ)?,
                 inst: number(inst)?,
@@ -101,7 +98,8 @@ pub fn lookup(line: &str) -> Result<Lookup, String> {
             copy: Vec::new(),
             table: numbers_field(table)?,
         }),
-        ["desk", row, right, message, copy, table] => Ok(Lookup {
+        ["desk", kind, row, right, message, copy, table] => Ok(Lookup {
+            kind: number(kind)?,
             ask: Ask::Desk {
                 row: number(row)?,
                 right: yes_no(right)?,

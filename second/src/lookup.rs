@@ -1,51 +1,17 @@
 //! Reading a value: the desk's lookup and the plain lookup.
-//!
-//! The table is taken as lent: only its first number and its rows are read,
-//! and nothing in it is believed before it is tested.
 
-use crate::rules::Rules;
-use crate::table::COLUMNS;
-
-/// One row as it stands in a lent table.
-#[derive(Clone, Copy)]
-pub struct Entry {
-    pub parent: u16,
-    pub typ: u16,
-    pub inst: u16,
-    pub place: u16,
-    pub length: u16,
-    pub standing: u16,
-}
-
-impl Entry {
-    fn of(&[parent, typ, inst, place, length, standing]: &[u16; COLUMNS]) -> Self {
-        Self {
-            parent,
-            typ,
-            inst,
-            place,
-            length,
-            standing,
-        }
-    }
-
-    /// The part of the buffer where its value stands, if it lies there.
-    pub fn value<'a>(&self, buffer: &'a [u8]) -> Option<&'a [u8]> {
-        let place = usize::from(self.place);
-        buffer.get(place..place + usize::from(self.length))
-    }
-}
+use crate::rules::{Rules, Told};
+use crate::table::Entry;
 
 impl Rules {
-    /// How many rows a lent table has, or none if it is shorter than it says.
-    pub(crate) fn count(&self, table: &[u16]) -> Option<usize> {
-        let header = table.get(..self.sizes.table_header)?;
-        let rows = usize::from(*header.first()?);
-        (table.len() >= self.used(rows)).then_some(rows)
-    }
-
-    pub(crate) fn entry(&self, table: &[u16], row: usize) -> Option<Entry> {
-        table.get(self.used(row)..)?.first_chunk().map(Entry::of)
+    /// The rows of a lent table that agrees with itself and is one of this kind
+    /// and of this message's type. Kind and type are compared and not tested.
+    fn rows_of(&self, kind: u32, message: &[u8], table: &[u16]) -> Option<Vec<Entry>> {
+        let rows = self.entries(table)?;
+        let typ = *message.get(self.sizes.type_octet)?;
+        let is_of = self.told(table, Told::Kind).map(u32::from) == Some(kind)
+            && self.told(table, Told::Type) == Some(typ.into());
+        (is_of && self.agrees(table, &rows)).then_some(rows)
     }
 
     /// The value that the message has for a pair, by the table's first row that
@@ -53,15 +19,16 @@ impl Rules {
     /// also where its part is not in the message.
     pub fn plain_part<'a>(
         &self,
+        kind: u32,
         typ: u16,
         inst: u16,
         message: &'a [u8],
         table: &[u16],
     ) -> Option<&'a [u8]> {
-        (0..self.count(table)?)
-            .map_while(|row| self.entry(table, row))
-            .find(|row| self.is_plain(row) && row.typ == typ && row.inst == inst)?
-            .value(message)
+        let rows = self.rows_of(kind, message, table)?;
+        let mut rows = rows.iter().filter(|row| self.is_plain(row));
+        let row = rows.find(|row| row.typ == typ && row.inst == inst)?;
+        row.value(message)
     }
 
     fn is_plain(&self, row: &Entry) -> bool {
@@ -69,9 +36,11 @@ impl Rules {
     }
 
     /// The value of a row, counted from 0: the message's for the right to see
-    /// subscribers, else the copy's.
+    /// subscribers, else the copy's. What type it is, the message says, and
+    /// never the copy.
     pub fn desk_part<'a>(
         &self,
+        kind: u32,
         row: usize,
         right: bool,
         message: &'a [u8],
@@ -79,10 +48,11 @@ impl Rules {
         table: &[u16],
     ) -> Option<&'a [u8]> {
         let lengths = message.len().cmp(&copy.len());
-        if !self.lookups.lengths.contains(&lengths) || row >= self.count(table)? {
+        if !self.lookups.lengths.contains(&lengths) {
             return None;
         }
-        let entry = self.entry(table, row)?;
-        entry.value(if right { message } else { copy })
+        let rows = self.rows_of(kind, message, table)?;
+        let row = rows.get(row)?;
+        row.value(if right { message } else { copy })
     }
 }

@@ -18,7 +18,7 @@ impl Rules {
         let verdict = match self.accepted_rows(kind, message, table.len() / 2) {
             Ok(rows) => {
                 let mut numbers = vec![0; self.used(rows.len())];
-                self.write_table(&rows, &mut numbers);
+                self.write_table(kind, message, &rows, &mut numbers);
                 put(&numbers, table);
                 Verdict::ACCEPTED
             }

@@ -61,7 +61,7 @@ impl Rules {
         let rows = usize::from(table[0]);
         let mut text = format!("accept {rows} {}\n", table[1]);
         for row in 0..rows {
-            push_line(&mut text, &table[self.used(row)..][..COLUMNS]);
+            push_line(&mut text, &table[self.place_of(row)..][..COLUMNS]);
         }
         text
     }

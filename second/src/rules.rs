@@ -16,6 +16,7 @@ pub struct Rules {
     pub types: [Facts; 256],
     pub bits: Bits,
     pub sizes: Sizes,
+    pub table: Table,
     pub checks: Checks,
     /// Does a cleaned copy have the elements of that standing? The others are
     /// set aside.
@@ -127,10 +128,14 @@ pub struct Sizes {
     pub body: [usize; 2],
     /// Octets of a message that its length field does not count.
     pub uncounted: usize,
+    /// Which octet of a message has its type.
+    pub type_octet: usize,
     /// So many octets left at a level are no element.
     pub remnant: RangeInclusive<usize>,
-    /// Numbers of a table before its first row.
+    /// Numbers that a table needs beside its rows.
     pub table_header: usize,
+    /// Where the first row begins.
+    pub first_row: usize,
     /// Numbers from one row to the next.
     pub row: usize,
     /// Octets that a buffer for the five numbers needs.
@@ -141,7 +146,33 @@ pub struct Sizes {
     pub most_rows: usize,
 }
 
-/// A check is named by its code.
+/// What a table says before its rows, and of them.
+#[derive(Debug, Clone, PartialEq, Eq)]
+pub struct Table {
+    /// What each number of the header tells, in their order.
+    pub header: Vec<Told>,
+    /// The standing of the rows that the header counts as kept.
+    pub kept: u16,
+}
+
+/// What a number of a table's header tells.
+#[derive(Debug, Clone, Copy, PartialEq, Eq)]
+pub enum Told {
+    Rows,
+    Kept,
+    /// The place of the first row.
+    First(usize),
+    /// The numbers used: those beside the rows, and so many for each row.
+    Used {
+        beside: usize,
+        row: usize,
+    },
+    Type,
+    Kind,
+}
+
+/// A check is named by its code. A code that an order has at two places has two
+/// checks.
 #[derive(Debug, Clone, Copy, PartialEq, Eq)]
 pub enum Check {
     Kind = 1,
@@ -160,9 +191,20 @@ pub enum Check {
     Table = 14,
     Room = 15,
     Built = 16,
+    /// 14 for a table without a whole header.
+    TableHeader = 31,
 }
 
 pub const CODES: usize = 17;
+
+impl Check {
+    pub fn code(self) -> u16 {
+        match self {
+            Check::TableHeader => Check::Table as u16,
+            check => check as u16,
+        }
+    }
+}
 
 /// Which checks are made, in their order, and the causes that they give.
 #[derive(Debug, Clone, PartialEq, Eq)]
@@ -253,9 +295,14 @@ impl Rules {
         &self.types[usize::from(typ)]
     }
 
-    /// Numbers used by a table of so many rows.
+    /// Numbers that a table of so many rows needs.
     pub fn used(&self, rows: usize) -> usize {
         self.sizes.table_header + self.sizes.row * rows
+    }
+
+    /// Where a row begins in a table, counted from 0.
+    pub fn place_of(&self, row: usize) -> usize {
+        self.sizes.first_row + self.sizes.row * row
     }
 }
 

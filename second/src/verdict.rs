@@ -17,8 +17,8 @@ impl Rules {
     /// The refusal by that check, with nothing named yet.
     pub fn refusal(&self, check: Check) -> Verdict {
         Verdict {
-            code: check as u16,
-            cause: self.checks.causes[check as usize],
+            code: check.code(),
+            cause: self.checks.causes[usize::from(check.code())],
             ..Verdict::ACCEPTED
         }
     }

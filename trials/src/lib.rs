@@ -33,8 +33,6 @@ mod exports {
             answer_len: usize,
         ) -> u16;
         pub fn wok_build(
-            kind: u32,
-            typ: u32,
             teid: u32,
             sequence: u32,
             table: *const u8,
@@ -102,8 +100,6 @@ pub fn build(head: Head, table: &[u8], values: &[u8], room: &mut [u8], answer: &
     // SAFETY: as above.
     unsafe {
         exports::wok_build(
-            head.kind,
-            head.typ,
             head.teid,
             head.sequence,
             table.as_ptr(),

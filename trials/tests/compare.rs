@@ -21,7 +21,7 @@ fn compare(cases: impl IntoIterator<Item = Case>) -> Codes {
             let mut copy = vec![0; lent.clean];
             codes.clean[usize::from(trials::clean(case.kind, &case.message, &mut copy, &mut []))] += 1;
         }
-        let mut table = [0; 12_272];
+        let mut table = [0; 12_276];
         codes.judge[usize::from(trials::judge(case.kind, &case.message, &mut table, &mut []))] += 1;
     }
     codes

@@ -18,10 +18,10 @@ use Rattle.rules.specs.Types.{among, isGroup}
 use Rattle.rules.specs.Listings.{Message, book, messageOf, isMessage}
 use Rattle.rules.specs.Table.{laid}
 use Rattle.rules.specs.Standing.{kept}
-use Rattle.rules.specs.Values.{cell, rowStanding, rowInstance, rowType, rowPlace, rowLength}
+use Rattle.rules.specs.Values.{rowCount, tableType, tableKind, cell, rowStanding, rowInstance, rowType, rowPlace, rowLength}
 use Rattle.rules.specs.Verdicts.{accepted, refused, check, refuses, first}
 use Rattle.rules.specs.Emitting.{Piece, sizes, sizeOf, emitted, written, acceptedWhole}
-use Rattle.rules.specs.Built.{firstOf, restOf, given, givens, givenRows, rowCount, reasons, anyOf, hasTeid, restGiven, builtLength, built, buildChecks, buildVerdict, buildLength, buildRoom}
+use Rattle.rules.specs.Built.{firstOf, restOf, given, givens, givenRows, reasons, anyOf, hasTeid, restGiven, builtLength, built, buildChecks, lateVerdict, headedChecks, buildVerdict, buildLength, buildRoom}
 use Rattle.rules.specs.Octets.{numbersIn}
 use Rattle.rules.specs.Answers.{Builds}
 use Rattle.rules.specs.declared.Verdict.{Verdict}
@@ -35,7 +35,7 @@ use Rattle.emitting.specs.Emits.{number, sizesIn, partsIn, lastIn, valueIn, Has
 use Rattle.emitting.proofs.Bridge.{Agrees, Agreeing, emitted-size, sizes-are, parts-are, parts-size}
 use Rattle.given.specs.Given.{tableIn, Copied}
 use Rattle.given.proofs.Tables.{numbers-alone, octets-alone}
-use Rattle.building.specs.Making.{earlyChecks, startOf, By, Makes, Made, size, message, lateChecks, sixteen}
+use Rattle.building.specs.Making.{earlyChecks, startOf, By, Makes, Made, size, message, lateChecks, sixteen, BuildsBy}
 
 -- ---- the first checks
 
@@ -98,13 +98,12 @@ module _ (kind typ sequence : ℕ) (t values : List ℕ) where
 module _ (kind typ teid sequence : ℕ) (t values room : List ℕ) where
   -- the checks are those, and two more
   by-early : refuses (first (earlyChecks kind typ sequence t values)) ≡ true
-      → buildVerdict book kind typ teid sequence t values (length room) ≡ first (earlyChecks kind typ sequence t values)
+      → lateVerdict book kind typ teid sequence t values (length room) ≡ first (earlyChecks kind typ sequence t values)
   unfolding buildChecks
   by-early e = first-append (earlyChecks kind typ sequence t values) _ ∙ rw e
 
   pub refused-early : (v : Verdict) → v ≡ first (earlyChecks kind typ sequence t values) → (v .code ≡ 0 → ⊥) → (s : Sent) → s ≡ record { verdict = v; length = 0 }
-      → Builds kind typ teid sequence t values room s room
-  unfolding buildLength buildRoom
+      → BuildsBy kind typ teid sequence t values room s room
   refused-early v e z s w =
       let r : refuses (first (earlyChecks kind typ sequence t values)) ≡ true = rw (← e) (lt-ltb 0 (v .code) (pos-of-ne-zero z)) in
       let b = by-early r in
@@ -121,7 +120,7 @@ module _ (kind typ teid sequence : ℕ) (t values room : List ℕ) where
   large-by true = omega arith
   large-by false = omega arith
 
-  fifteen : Opens kind typ sequence t values → mostRows < rowCount t → buildVerdict book kind typ teid sequence t values (length room) ≡ refused 15 0
+  fifteen : Opens kind typ sequence t values → mostRows < rowCount t → lateVerdict book kind typ teid sequence t values (length room) ≡ refused 15 0
   unfolding buildChecks first check
   fifteen o l =
       let a = many-rows (rowCount t) 0 (λ j z c. o .right .each j (omega arith) .stand) in
@@ -130,8 +129,7 @@ module _ (kind typ teid sequence : ℕ) (t values room : List ℕ) where
       rw (o .kind-known, o .type-listed, none-holds sequence t values (o .right), b)
 
   pub refused-large : Opens kind typ sequence t values → (x : ℕ) → x ≡ rowCount t → mostRows < x → (s : Sent) → s ≡ record { verdict = refused 15 0; length = 0 }
-      → Builds kind typ teid sequence t values room s room
-  unfolding buildLength buildRoom
+      → BuildsBy kind typ teid sequence t values room s room
   refused-large o x e l s w =
       let v = fifteen o (omega (arith, e)) in
       record { verdict-is = rw w (sym v); length-is = rw (w, v); room-left = rw v }
@@ -171,14 +169,14 @@ pub record Holds (t rows : List ℕ) (count : ℕ) : Type 0 where
 
 -- the rows of a table of numbers stand after its header
 pub numbers-held : (sequence : ℕ) (t values : List ℕ) → NoReason sequence t values → (count : ℕ) → count ≡ rowCount t → ((j : ℕ) → getD t j 0 < 65536)
-    → Holds t (take (length t - 4) (drop 4 t)) count
+    → Holds t (take (length t - 6) (drop 6 t)) count
 numbers-held sequence t values r count e low =
-    let all : take (length t - 4) (drop 4 t) ≡ drop 4 t = take-all (length t - 4) (drop 4 t) (omega (arith, length-drop 4 t)) in
+    let all : take (length t - 6) (drop 6 t) ≡ drop 6 t = take-all (length t - 6) (drop 6 t) (omega (arith, length-drop 6 t)) in
     rw all (record {
       count-is = e;
-      long = omega (arith, r .all-there, length-drop 4 t);
+      long = omega (arith, r .all-there, length-drop 6 t);
       few = omega (arith, low 0);
-      each = λ j l. getD-drop 4 t j 0;
+      each = λ j l. getD-drop 6 t j 0;
       low = low;
     })
 
@@ -294,14 +292,28 @@ module _ (kind typ teid sequence : ℕ) (t values room rows : List ℕ) (count a
   built-length =
       omega (arith, length-append (restGiven book kind typ teid sequence t values) (emitted 0 (givenRows t values)), emitted-size 0 (givenRows t values))
 
-  late-is : first (lateChecks kind typ teid sequence at rows count values room) ≡ buildVerdict book kind typ teid sequence t values (length room)
+  late-is : first (lateChecks kind typ teid sequence at rows count values room) ≡ lateVerdict book kind typ teid sequence t values (length room)
   unfolding buildChecks first check
   late-is = rw (message-is, size-is, o .kind-known, o .type-listed, none-holds sequence t values (o .right))
 
-  pub builds : {s : Sent} {room′ : List ℕ} → Made kind typ teid sequence at rows count values room s room′ → Builds kind typ teid sequence t values room s room′
-  unfolding buildLength buildRoom
+  pub builds : {s : Sent} {room′ : List ℕ} → Made kind typ teid sequence at rows count values room s room′ → BuildsBy kind typ teid sequence t values room s room′
   builds {s} {room′} b = record {
     verdict-is = b .verdict-is ∙ late-is;
     length-is = b .length-is ∙ rw (late-is, size-is, built-length);
     room-left = b .room-left ∙ rw (late-is, message-is);
   }
+
+-- ---- the table says kind and type
+
+module _ (teid sequence : ℕ) (t values room : List ℕ) where
+  pub no-header : length t < headerNumbers → (s : Sent) → s ≡ record { verdict = refused 14 0; length = 0 } → Builds teid sequence t values room s room
+  unfolding headedChecks first check buildLength buildRoom
+  no-header l s w = let e = lt-ltb (length t) headerNumbers l in record { verdict-is = rw (w, e); length-is = rw (w, e); room-left = rw e }
+
+  pub by-header : headerNumbers ≤ length t → {k y : ℕ} → k ≡ tableKind t → y ≡ tableType t → {s : Sent} {room′ : List ℕ} → BuildsBy k y teid sequence t values room s room′
+      → Builds teid sequence t values room s room′
+  unfolding headedChecks first check buildLength buildRoom
+  by-header l {k} {y} p q {s} {room′} x =
+      let e = le-ltb (length t) headerNumbers l in
+      let z : BuildsBy (tableKind t) (tableType t) teid sequence t values room s room′ = rw (p, q) at x in
+      record { verdict-is = z .verdict-is ∙ rw e; length-is = z .length-is ∙ rw e; room-left = z .room-left ∙ rw e }

@@ -11,7 +11,7 @@ use Rattle.rules.specs.Types.{among, isGroup}
 use Rattle.rules.specs.Listings.{book, isMessage}
 use Rattle.rules.specs.Table.{laid}
 use Rattle.rules.specs.Emitting.{acceptedWhole}
-use Rattle.rules.specs.Built.{firstOf, restOf, reasons, anyOf}
+use Rattle.rules.specs.Built.{firstOf, restOf, reasons, anyOf, built, lateVerdict}
 use Rattle.rules.specs.Verdicts.{check, refused, refuses, first}
 use Rattle.rules.specs.declared.Verdict.{Verdict}
 use Rattle.rules.specs.declared.Sent.{Sent}
@@ -80,3 +80,10 @@ Made kind typ teid sequence at rows count values room answer room′ =
 pub record Sends (n : ℕ) (draft room : List ℕ) : Type 0 where
   pub there : n ≤ length draft
   pub fits : n ≤ length room
+
+-- ---- the builder, once it knows kind and type
+
+pub record BuildsBy (kind typ teid sequence : ℕ) (t values room : List ℕ) (answer : Sent) (room′ : List ℕ) : Type 0 where
+  pub verdict-is : answer .verdict ≡ lateVerdict book kind typ teid sequence t values (length room)
+  pub length-is : answer .length ≡ cond (refuses (lateVerdict book kind typ teid sequence t values (length room))) 0 (length (built book kind typ teid sequence t values))
+  pub room-left : room′ ≡ cond (refuses (lateVerdict book kind typ teid sequence t values (length room))) room (laid (built book kind typ teid sequence t values) room)

@@ -1,4 +1,4 @@
-// The builder: a message from a kind, a message type, a TEID, a sequence number, a table and a buffer of values. The table is tested first, then the message
+// The builder: a message from a TEID, a sequence number, a table and a buffer of values. The table is tested first, then the message
 // is made on a page of its own, and what the reading says of it decides whether it goes to the room.
 ghost use mathlib.Core.Path.{_≡_};
 ghost use mathlib.Core.List.{[], _∷_};
@@ -11,7 +11,7 @@ ghost use Rattle.rules.specs.Verdicts.{refused, first, check};
 ghost use Rattle.rules.specs.Emitting.{acceptedWhole};
 ghost use Rattle.rules.specs.Answers.{Builds};
 ghost use Rattle.given.specs.Given.{tableIn};
-ghost use Rattle.building.specs.Making.{earlyChecks, By, Makes, Made, Sends};
+ghost use Rattle.building.specs.Making.{earlyChecks, By, Makes, Made, Sends, BuildsBy};
 use rules::Sent;
 use rules::Verdict;
 
@@ -49,8 +49,8 @@ pub(crate) fn early(
     answers::accept()
 }
 
-// The five numbers, and the length of the message, which stands at the start of the room; a refusal writes nothing.
-pub fn build(
+// The message of a kind and a type.
+pub(crate) fn build_by(
     kind: u32,
     typ: u32,
     teid: u32,
@@ -59,7 +59,7 @@ pub fn build(
     values: &[u8],
     room: &mut [u8],
 ) -> Sent
-    ensures { λ r. ⌜ Builds kind typ teid sequence (now (table .entry)) (now (values .entry)) (now (room .entry)) r (now (room .exit)) ⌝ }
+    ensures { λ r. ⌜ BuildsBy kind typ teid sequence (now (table .entry)) (now (values .entry)) (now (room .entry)) r (now (room .exit)) ⌝ }
 {
     let v = early(kind, typ, sequence, table, &values[..0], values);
     if v.code != 0 {
@@ -76,7 +76,7 @@ pub fn build(
         teid,
         sequence,
         at,
-        &table[4..],
+        &table[6..],
         count,
         values,
         room,
@@ -84,7 +84,7 @@ pub fn build(
 }
 
 // The same from a table of octets, two a number. One of more than 1,022 rows is no table of a message that fits.
-pub fn build_octets(
+pub(crate) fn build_octets_by(
     kind: u32,
     typ: u32,
     teid: u32,
@@ -93,7 +93,7 @@ pub fn build_octets(
     values: &[u8],
     room: &mut [u8],
 ) -> Sent
-    ensures { λ r. ⌜ Builds kind typ teid sequence (numbersIn (now (table .entry))) (now (values .entry)) (now (room .entry)) r (now (room .exit)) ⌝ }
+    ensures { λ r. ⌜ BuildsBy kind typ teid sequence (numbersIn (now (table .entry))) (now (values .entry)) (now (room .entry)) r (now (room .exit)) ⌝ }
 {
     let none = [0u16; 1];
     let v = early(kind, typ, sequence, &none[..0], table, values);
@@ -111,4 +111,28 @@ pub fn build_octets(
     let mut rows = scratch::large();
     given::copy_rows(table, 6 * count, &mut rows);
     making::make(kind, typ, teid, sequence, at, &rows, count, values, room)
+}
+
+// The five numbers, and the length of the message, which stands at the start of the room; a refusal writes nothing. The table says its kind and type.
+pub fn build(teid: u32, sequence: u32, table: &[u16], values: &[u8], room: &mut [u8]) -> Sent
+    ensures { λ r. ⌜ Builds teid sequence (now (table .entry)) (now (values .entry)) (now (room .entry)) r (now (room .exit)) ⌝ }
+{
+    if table.len() < 6 {
+        return refuse(14);
+    }
+    let kind = table[5] as u32;
+    let typ = table[4] as u32;
+    build_by(kind, typ, teid, sequence, table, values, room)
+}
+
+// The same from a table of octets.
+pub fn build_octets(teid: u32, sequence: u32, table: &[u8], values: &[u8], room: &mut [u8]) -> Sent
+    ensures { λ r. ⌜ Builds teid sequence (numbersIn (now (table .entry))) (now (values .entry)) (now (room .entry)) r (now (room .exit)) ⌝ }
+{
+    if table.len() < 12 {
+        return refuse(14);
+    }
+    let kind = given::two(table[10], table[11]) as u32;
+    let typ = given::two(table[8], table[9]) as u32;
+    build_octets_by(kind, typ, teid, sequence, table, values, room)
 }

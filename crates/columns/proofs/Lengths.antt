@@ -76,7 +76,7 @@ module _ (names : List ℕ) where
     line-length r =
         let run = rowRun table r in
         let numbers = said names run rows (rowParent table r) in
-        let part = valueOf table (length m) (length c) (cond (w .right) m c) r in
+        let part = valueOf (w .kind) table m (length c) (cond (w .right) m c) r in
         let end = ending names run w (rowType table r) (rowStanding table r) part in
         let mark = said names run marks (marked v (rowPlace table r)) in
         omega (
@@ -89,6 +89,6 @@ module _ (names : List ℕ) where
           length-append mark (10 ∷ []),
         )
 
-    pub lines-length : length (rowLines names w v table m c) ≤ 158 * tableRows table
+    pub lines-length : length (rowLines names w v table m c) ≤ 158 * tableRows (w .kind) m table
     unfolding rowLines
-    lines-length = omega (arith, turns-length (rowLine names w v table m c) 158 line-length 0 (tableRows table))
+    lines-length = omega (arith, turns-length (rowLine names w v table m c) 158 line-length 0 (tableRows (w .kind) m table))

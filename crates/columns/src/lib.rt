@@ -1,11 +1,10 @@
 // The table in lines, one a row, with the values that the viewer may see and the row marked that a refusal names.
 ghost use mathlib.Core.Path.{_≡_};
-ghost use Prim.Native.Nat.{_<_};
 ghost use lib.ListN.{length};
-ghost use Rattle.rules.specs.Values.{tableRows, cell};
-ghost use Rattle.lookup.specs.Lent.{Number};
+ghost use Rattle.rules.specs.Values.{cell};
+ghost use Rattle.lookup.specs.Lent.{Number, HasRow, Asked};
 ghost use Rattle.wording.specs.Puts.{Puts};
-ghost use Rattle.columns.specs.Rows.{rowRun, marked, rowLine, rowLines};
+ghost use Rattle.columns.specs.Rows.{rowRun, marked, rowLine, rowLines, Counted};
 use phrases::MARKS;
 use phrases::ROWS;
 use phrases::runs::narrow;
@@ -24,15 +23,15 @@ pub struct View {
 
 // Number `j` of a row.
 fn cell(table: &[u16], row: usize, j: usize) -> u16
-    requires { ⌜ (row < tableRows (now table)) × (j < 6) ⌝ }
+    requires { ⌜ Asked (now table) row j ⌝ }
     ensures { λ r. ⌜ r ≡ cell (now (table .entry)) row j ⌝ }
 {
-    number_at(table, 4 + 6 * row + j)
+    number_at(table, 6 + 6 * row + j)
 }
 
 // The numbers that are said of a row, which is shown as one more.
 fn row_run(table: &[u16], row: usize) -> [u16; 7]
-    requires { ⌜ row < tableRows (now table) ⌝ }
+    requires { ⌜ HasRow (now table) row ⌝ }
     ensures { λ r. ⌜ r ≡ rowRun (now (table .entry)) row ⌝ }
 {
     [
@@ -62,7 +61,7 @@ fn marked(v: Verdict, place: u16) -> u16
     0
 }
 
-// The line of a row; its value is what the desk's lookup answers.
+// The line of a row of a table with `count` rows; its value is what the desk's lookup answers.
 fn line<'a>(
     names: &[u8],
     view: View,
@@ -70,11 +69,12 @@ fn line<'a>(
     table: &[u16],
     message: &'a [u8],
     copy: &'a [u8],
+    count: usize,
     row: usize,
     at: usize,
     out: &mut [u8],
 ) -> usize
-    requires { ⌜ row < tableRows (now table) ⌝ }
+    requires { ⌜ Counted (view .kind) (now message) (now table) count row ⌝ }
     ensures { λ r. ⌜ Puts (rowLine (now (names .entry)) view v (now (table .entry)) (now (message .entry)) (now (copy .entry)) row) at (now (out .entry)) r (now (out .exit)) ⌝ }
 {
     let run = row_run(table, row);
@@ -82,7 +82,7 @@ fn line<'a>(
     let typ = run[2];
     let place = run[4];
     let stand = run[6];
-    let part = lookup::desk(row, view.right, message, copy, table);
+    let part = lookup::desk_part(count, row, view.right, message, copy, table);
     let at1 = say(ROWS, parent, names, &run, at, out);
     let at2 = values::ending(names, &run, view, typ, stand, part, at1, out);
     let at3 = say(MARKS, marked(v, place), names, &run, at2, out);
@@ -102,11 +102,11 @@ pub fn lines<'a>(
 ) -> usize
     ensures { λ r. ⌜ Puts (rowLines (now (names .entry)) view v (now (table .entry)) (now (message .entry)) (now (copy .entry))) at (now (out .entry)) r (now (out .exit)) ⌝ }
 {
-    let count = lookup::rows(table);
+    let count = lookup::rows(view.kind, message, table);
     let mut to = at;
     let mut row = 0;
     while row < count {
-        to = line(names, view, v, table, message, copy, row, to, out);
+        to = line(names, view, v, table, message, copy, count, row, to, out);
         row += 1;
     }
     to

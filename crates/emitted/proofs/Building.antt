@@ -17,7 +17,7 @@ use Rattle.rules.specs.Types.{among, isGroup}
 use Rattle.rules.specs.Listings.{Book, Message, messageOf, isMessage}
 use Rattle.rules.specs.Standing.{Item, fresh, kept, itemOf}
 use Rattle.rules.specs.Taking.{whole, taken, bodyLevel}
-use Rattle.rules.specs.Values.{rowStanding}
+use Rattle.rules.specs.Values.{rowCount, tableType, tableKind, rowStanding}
 use Rattle.rules.specs.Verdicts.{refused, check, refuses, first, items}
 use Rattle.rules.specs.Met.{Met, ends, alone, group}
 use Rattle.rules.specs.Sound.{sound}
@@ -26,7 +26,7 @@ use Rattle.rules.proofs.Rows.{Every, every-append, body-met}
 use Rattle.rules.proofs.Checks.{AllPass, all-pass, check-off}
 use Rattle.rules.specs.Emitting.{Piece, stays, sizes, emitted, remaining, written, acceptedWhole}
 use Rattle.rules.specs.Cleaned.{received, pieces}
-use Rattle.rules.specs.Built.{firstOf, restOf, given, givens, givenRows, rowCount, reasons, anyOf, depthFirst, hasTeid, restGiven, builtLength, tooLarge, built, buildChecks, buildVerdict, buildLength}
+use Rattle.rules.specs.Built.{headedChecks, buildVerdict, builtBy, firstOf, restOf, given, givens, givenRows, reasons, anyOf, depthFirst, hasTeid, restGiven, builtLength, tooLarge, built, buildChecks, lateVerdict, buildLength}
 use Rattle.rules.proofs.Reasons.{neither, NoReason, no-reason, RowRight}
 use Rattle.emitted.proofs.Forests.{Forest, grown, grows, grown-size}
 use Rattle.emitted.proofs.Again.{Here, Counts, Kept, again, remaining-in, remaining-nil}
@@ -120,7 +120,7 @@ module _ (b : Book) (fine : sound b ≡ true) (k typ teid sequence : ℕ) (t val
         ∙ remaining-all (tree .rows) fs
         ∙ tree .rows-are
 
-  module _ (room : ℕ) (ok : refuses (buildVerdict b k typ teid sequence t values room) ≡ false) where
+  module _ (room : ℕ) (ok : refuses (lateVerdict b k typ teid sequence t values room) ≡ false) where
     passes : AllPass (buildChecks b k typ teid sequence t values room)
     passes = all-pass (buildChecks b k typ teid sequence t values room) .0 ok
 
@@ -158,11 +158,19 @@ module _ (b : Book) (fine : sound b ≡ true) (k typ teid sequence : ℕ) (t val
       omega (arith, build-length, ltb-false room (builtLength b k typ teid sequence t values) (room-ok .1)),
     )
 
+-- where nothing refuses, the type and the kind are those of the header, and the checks after the first pass
+module _ (b : Book) (fine : sound b ≡ true) (teid sequence : ℕ) (t values : List ℕ) where
+  pub headed-pass : (room : ℕ) → refuses (buildVerdict b teid sequence t values room) ≡ false → refuses (lateVerdict b (tableKind t) (tableType t) teid sequence t values room) ≡ false
+  unfolding headedChecks AllPass
+  headed-pass room ok =
+      let a = all-pass (headedChecks b teid sequence t values room) .0 ok in
+      all-pass (buildChecks b (tableKind t) (tableType t) teid sequence t values room) .1 (a .1)
+
   -- the length that is answered
-  pub build-most : (room : ℕ) → buildLength b k typ teid sequence t values room ≤ largestMessage
+  pub build-most : (room : ℕ) → buildLength b teid sequence t values room ≤ largestMessage
   unfolding buildLength
-  build-most room = go (refuses (buildVerdict b k typ teid sequence t values room)) refl
+  build-most room = go (refuses (buildVerdict b teid sequence t values room)) refl
     where
-      go : (c : Bool) → refuses (buildVerdict b k typ teid sequence t values room) ≡ c → cond c 0 (length made) ≤ largestMessage
+      go : (c : Bool) → refuses (buildVerdict b teid sequence t values room) ≡ c → cond c 0 (length (builtBy b teid sequence t values)) ≤ largestMessage
       go true e = zero≤
-      go false e = build-fits room e .0
+      go false e = build-fits b fine (tableKind t) (tableType t) teid sequence t values room (headed-pass room e) .0

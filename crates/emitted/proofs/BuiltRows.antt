@@ -15,12 +15,12 @@ use Rattle.rules.specs.Types.{isGroup}
 use Rattle.rules.specs.Listings.{Book}
 use Rattle.rules.specs.Standing.{Item, kept, valuePlace}
 use Rattle.rules.specs.Table.{keptRows, nth}
-use Rattle.rules.specs.Values.{rowParent, rowType, rowInstance, rowPlace, rowLength, rowStanding}
+use Rattle.rules.specs.Values.{rowCount, tableType, tableKind, rowParent, rowType, rowInstance, rowPlace, rowLength, rowStanding}
 use Rattle.rules.specs.Verdicts.{refuses, items}
 use Rattle.rules.specs.Sound.{sound}
 use Rattle.rules.specs.Emitting.{Piece}
 use Rattle.rules.specs.Cleaned.{received, pieces}
-use Rattle.rules.specs.Built.{given, givens, givenRows, rowCount, built, buildVerdict}
+use Rattle.rules.specs.Built.{given, givens, givenRows, built, lateVerdict}
 use Rattle.rules.proofs.Reasons.{NoReason, RowRight}
 use Rattle.rules.proofs.Rows.{Every, every-at, body-met}
 use Rattle.rules.proofs.Places.{Ranged, ranged}
@@ -51,7 +51,7 @@ givens-at t values r zero j l = absurd (omega arith)
 givens-at t values r (suc n) zero l = let e : r + 0 ≡ r = add-zero r in rw e
 givens-at t values r (suc n) (suc j) l = let e : r + suc j ≡ suc r + j = omega arith in rw e (givens-at t values (suc r) n j (omega arith))
 
-module _ (b : Book) (fine : sound b ≡ true) (k typ teid sequence : ℕ) (t values : List ℕ) (room : ℕ) (ok : refuses (buildVerdict b k typ teid sequence t values room) ≡ false) where
+module _ (b : Book) (fine : sound b ≡ true) (k typ teid sequence : ℕ) (t values : List ℕ) (room : ℕ) (ok : refuses (lateVerdict b k typ teid sequence t values room) ≡ false) where
   abbrev made : List ℕ
   made = built b k typ teid sequence t values
 

@@ -19,7 +19,7 @@ use Rattle.rules.specs.Listings.{Book, Message, messageOf, isMessage}
 use Rattle.rules.specs.Standing.{Item, fresh, kept, valuePlace, valueEnd}
 use Rattle.rules.specs.Taking.{whole, taken, bodyLevel}
 use Rattle.rules.specs.Table.{row, rowsOf, keptRows, header, tableOf, noItem, nth}
-use Rattle.rules.specs.Values.{cell, rowParent, rowType, rowInstance, rowPlace, rowLength, rowStanding}
+use Rattle.rules.specs.Values.{rowCount, tableType, tableKind, cell, rowParent, rowType, rowInstance, rowPlace, rowLength, rowStanding}
 use Rattle.rules.specs.Verdicts.{refused, check, refuses, first, items}
 use Rattle.rules.specs.Met.{Met}
 use Rattle.rules.specs.Sound.{sound}
@@ -29,7 +29,7 @@ use Rattle.rules.proofs.Header.{Passed}
 use Rattle.rules.proofs.Checks.{AllPass, all-pass, check-off}
 use Rattle.rules.specs.Emitting.{Piece, stays, sizes, emitted, written, acceptedWhole}
 use Rattle.rules.specs.Cleaned.{received, pieces}
-use Rattle.rules.specs.Built.{firstOf, teidOctets, sequenceOctets, restOf, teidOf, sequenceOf, ZeroBits, given, givens, rowCount, givenRows, depthFirst, hasTeid, builtLength, built, buildChecks, buildVerdict, reasons, anyOf}
+use Rattle.rules.specs.Built.{firstOf, teidOctets, sequenceOctets, restOf, teidOf, sequenceOf, ZeroBits, given, givens, givenRows, depthFirst, hasTeid, builtLength, built, buildChecks, lateVerdict, headedChecks, buildVerdict, builtBy, reasons, anyOf}
 use Rattle.rules.proofs.Reasons.{RowRight, NoReason, none-holds}
 use Rattle.emitted.proofs.Forests.{Forest, grown, grows, grown-size}
 use Rattle.emitted.proofs.Again.{Kept}
@@ -41,24 +41,24 @@ use Rattle.emitted.proofs.Building.{instances, made-length}
 
 -- ---- the numbers of a table
 
-module _ (es : List Item) (extra : List ℕ) where
+module _ (typ k : ℕ) (es : List Item) (extra : List ℕ) where
   abbrev lent : List ℕ
-  lent = tableOf es ++ extra
+  lent = tableOf typ k es ++ extra
 
-  pub table-length : length (tableOf es) ≡ used (length es)
+  pub table-length : length (tableOf typ k es) ≡ used (length es)
   unfolding tableOf header
-  table-length = omega (arith, rows-length es, length-append (length es ∷ keptRows es ∷ headerNumbers ∷ used (length es) ∷ []) (rowsOf es))
+  table-length = omega (arith, rows-length es, length-append (length es ∷ keptRows es ∷ headerNumbers ∷ used (length es) ∷ typ ∷ k ∷ []) (rowsOf es))
 
-  pub cell-is : (r c : ℕ) → r < length es → c < rowNumbers → cell (tableOf es ++ extra) r c ≡ getD (row (nth es r)) c 0
+  pub cell-is : (r c : ℕ) → r < length es → c < rowNumbers → cell (tableOf typ k es ++ extra) r c ≡ getD (row (nth es r)) c 0
   unfolding tableOf header
   cell-is r c l h =
-      let a : used r + c < length (tableOf es) = omega (arith, table-length) in
-      let e : used r + c ≡ length (length es ∷ keptRows es ∷ headerNumbers ∷ used (length es) ∷ []) + (rowNumbers * r + c) = omega arith in
-      List·getD-append (tableOf es) extra 0 (used r + c) a
-      ∙ rw e (getD-append-add (length es ∷ keptRows es ∷ headerNumbers ∷ used (length es) ∷ []) (rowsOf es) (rowNumbers * r + c) 0)
+      let a : used r + c < length (tableOf typ k es) = omega (arith, table-length) in
+      let e : used r + c ≡ length (length es ∷ keptRows es ∷ headerNumbers ∷ used (length es) ∷ typ ∷ k ∷ []) + (rowNumbers * r + c) = omega arith in
+      List·getD-append (tableOf typ k es) extra 0 (used r + c) a
+      ∙ rw e (getD-append-add (length es ∷ keptRows es ∷ headerNumbers ∷ used (length es) ∷ typ ∷ k ∷ []) (rowsOf es) (rowNumbers * r + c) 0)
       ∙ in-rows es r c l h
 
-  pub count-is : rowCount (tableOf es ++ extra) ≡ length es
+  pub count-is : rowCount (tableOf typ k es ++ extra) ≡ length es
   unfolding tableOf header
   count-is = refl
 
@@ -68,7 +68,7 @@ module _ (es : List Item) (extra : List ℕ) where
         → _≡_ {A = Piece} (record { parent = p; typ = t; fourth = f; stand = s; value = u }) (record { parent = p′; typ = t′; fourth = f′; stand = s′; value = u′ })
     same-piece p p′ t t′ f f′ s s′ u u′ a c d e g = rw (a, c, d, e, g)
 
-    row-given : (r : ℕ) → r < length es → given (tableOf es ++ extra) m r ≡ received m (nth es r)
+    row-given : (r : ℕ) → r < length es → given (tableOf typ k es ++ extra) m r ≡ received m (nth es r)
     unfolding given received
     row-given r l =
         let i = nth es r in
@@ -77,12 +77,12 @@ module _ (es : List Item) (extra : List ℕ) where
         same-piece _ _ _ _ _ _ _ _ _ _ (cell-is r 0 l (omega arith)) (cell-is r 1 l (omega arith)) (cell-is r 2 l (omega arith) ∙ omega (arith, a, z)) (cell-is r 5 l (omega arith))
         (rw (cell-is r 1 l (omega arith), cell-is r 3 l (omega arith), cell-is r 4 l (omega arith)))
 
-    rows-given : (n r : ℕ) → r + n ≤ length es → givens (tableOf es ++ extra) m r n ≡ pieces m (take n (drop r es))
+    rows-given : (n r : ℕ) → r + n ≤ length es → givens (tableOf typ k es ++ extra) m r n ≡ pieces m (take n (drop r es))
     unfolding givens pieces
     rows-given zero r l = refl
     rows-given (suc n) r l = rw (row-given r (omega arith), rows-given n (suc r) (omega arith), drop-cons es r noItem (omega arith))
 
-    pub all-given : givens (tableOf es ++ extra) m 0 (length es) ≡ pieces m es
+    pub all-given : givens (tableOf typ k es ++ extra) m 0 (length es) ≡ pieces m es
     all-given = rows-given (length es) 0 (omega arith) ∙ ap (pieces m) (take-length es)
 
 sits-all : (m : List ℕ) (es : List Item) → Every Kept es → AllSit (pieces m es)
@@ -160,9 +160,9 @@ module _ (m : List ℕ) (o : Octets m) where
 -- ---- the theorem
 
 module _ (b : Book) (fine : sound b ≡ true) (k : ℕ) (m : List ℕ) (o : Octets m) (ok : acceptedWhole b k m ≡ true) (es : List Item) (taking : taken b k m ≡ whole es)
-    (extra : List ℕ) (bits : ZeroBits m (tableOf es ++ extra)) where
+    (extra : List ℕ) (bits : ZeroBits m (tableOf (messageType m) k es ++ extra)) where
   abbrev table : List ℕ
-  table = tableOf es ++ extra
+  table = tableOf (messageType m) k es ++ extra
 
   own : Wholly b k m es
   own =
@@ -179,11 +179,11 @@ module _ (b : Book) (fine : sound b ≡ true) (k : ℕ) (m : List ℕ) (o : Octe
 
   low-bits : (r : ℕ) → r < length es → octet m (nth es r .place + 3) < 16
   low-bits r l =
-      let e : rowPlace table r - 1 ≡ nth es r .place + 3 = omega (arith, cell-is es extra r 3 l (omega arith)) in
-      rw e at (bits .elements r (omega (arith, count-is es extra)))
+      let e : rowPlace table r - 1 ≡ nth es r .place + 3 = omega (arith, cell-is (messageType m) k es extra r 3 l (omega arith)) in
+      rw e at (bits .elements r (omega (arith, count-is (messageType m) k es extra)))
 
   rows-are : givenRows table m ≡ pieces m es
-  rows-are = ap (givens table m 0) (count-is es extra) ∙ all-given es extra m (instances met m (here-from m (headerLength m))) low-bits
+  rows-are = ap (givens table m 0) (count-is (messageType m) k es extra) ∙ all-given (messageType m) k es extra m (instances met m (here-from m (headerLength m))) low-bits
 
   self : Same b fine k m 0 0 (drop (headerLength m) m) es
   self = same-run b fine k m met (own .all-kept) (octets-drop (headerLength m) m o) (here-from m (headerLength m))
@@ -216,7 +216,7 @@ module _ (b : Book) (fine : sound b ≡ true) (k : ℕ) (m : List ℕ) (o : Octe
 
   row-right : (r : ℕ) → r < length es → RowRight table m r
   row-right r l =
-      let c = cell-is es extra r in
+      let c = cell-is (messageType m) k es extra r in
       record {
         stand = c 5 l (omega arith) ∙ every-at Kept es (own .all-kept) r l;
         typ = omega (arith, c 1 l (omega arith), fit r l .typ);
@@ -228,8 +228,8 @@ module _ (b : Book) (fine : sound b ≡ true) (k : ℕ) (m : List ℕ) (o : Octe
   own-right : NoReason (sequenceOf m) table m
   unfolding tableOf header
   own-right = record {
-    long = omega (arith, table-length es extra, length-append (tableOf es) extra);
-    all-there = omega (arith, table-length es extra, length-append (tableOf es) extra);
+    long = omega (arith, table-length (messageType m) k es extra, length-append (tableOf (messageType m) k es) extra);
+    all-there = omega (arith, table-length (messageType m) k es extra, length-append (tableOf (messageType m) k es) extra);
     kept-is = all-kept-rows es (own .all-kept);
     place-is = refl;
     used-is = refl;
@@ -246,9 +246,9 @@ module _ (b : Book) (fine : sound b ≡ true) (k : ℕ) (m : List ℕ) (o : Octe
   passing a v r e = check-off a v r ∙ e
 
   -- where the room holds it, no check applies
-  pub rebuilt-accepted : (room : ℕ) → length m ≤ room → refuses (buildVerdict b k (messageType m) (teidOf m) (sequenceOf m) table m room) ≡ false
+  late-accepted : (room : ℕ) → length m ≤ room → refuses (lateVerdict b k (messageType m) (teidOf m) (sequenceOf m) table m room) ≡ false
   unfolding buildChecks AllPass
-  rebuilt-accepted room l =
+  late-accepted room l =
       all-pass (buildChecks b k (messageType m) (teidOf m) (sequenceOf m) table m room) .1 (
         passing _ (refused 1 0) refl (rw (passed .kind)),
         (
@@ -261,4 +261,17 @@ module _ (b : Book) (fine : sound b ≡ true) (k : ℕ) (m : List ℕ) (o : Octe
             ),
           ),
         ),
+      )
+
+  -- its table says its type and kind itself
+  pub rebuilt-itself : builtBy b (teidOf m) (sequenceOf m) table m ≡ m
+  unfolding tableOf header
+  rebuilt-itself = rebuilt
+
+  pub rebuilt-accepted : (room : ℕ) → length m ≤ room → refuses (buildVerdict b (teidOf m) (sequenceOf m) table m room) ≡ false
+  unfolding headedChecks tableOf header AllPass
+  rebuilt-accepted room l =
+      all-pass (headedChecks b (teidOf m) (sequenceOf m) table m room) .1 (
+        passing _ (refused 14 0) refl (le-ltb (length table) headerNumbers (own-right .long)),
+        all-pass (buildChecks b k (messageType m) (teidOf m) (sequenceOf m) table m room) .0 (late-accepted room l),
       )

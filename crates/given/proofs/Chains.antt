@@ -23,8 +23,8 @@ use Rattle.given.specs.Given.{Chain, root, link, Climbed, Climbs, HasCel
 -- ---- the climb
 
 -- the parent that the table says of row number a, counted from 1
-parent-at : (t : List ℕ) (a : ℕ) → 0 < a → getD t (6 * a - 2) 0 ≡ rowParent t (a - 1)
-parent-at t a l = let e : 6 * a - 2 ≡ used (a - 1) + 0 = omega arith in rw e
+parent-at : (t : List ℕ) (a : ℕ) → 0 < a → getD t (6 * a) 0 ≡ rowParent t (a - 1)
+parent-at t a l = let e : 6 * a ≡ used (a - 1) + 0 = omega arith in rw e
 
 -- a path that shows the parent as the path p does
 pub record Reaches (t : List ℕ) (a parent : ℕ) (p : List ℕ) : Type 0 where
@@ -53,10 +53,10 @@ module _ {t : List ℕ} {inner parent a : ℕ} (s : Climbing t inner parent a) w
   falls : Climbs t inner → parent < a → rowParent t (a - 1) < a
   falls p l = let r = s .reaches (p .path) (p .chain) in up t a parent (p .path) (r .path) l (r .chain) (r .there) (r .open-since) .0
 
-  pub climb-less : Climbs t inner → parent < a → (x : ℕ) → x ≡ getD t (6 * a - 2) 0 → x < a
+  pub climb-less : Climbs t inner → parent < a → (x : ℕ) → x ≡ getD t (6 * a) 0 → x < a
   climb-less p l x e = omega (arith, e, parent-at t a (omega arith), falls p l)
 
-  pub climb-goes : Climbs t inner → parent < a → (x : ℕ) → x ≡ getD t (6 * a - 2) 0 → Climbing t inner parent x
+  pub climb-goes : Climbs t inner → parent < a → (x : ℕ) → x ≡ getD t (6 * a) 0 → Climbing t inner parent x
   climb-goes q l x e = record {
     low = omega (arith, climb-less q l x e, s .low);
     reaches = λ p c.
@@ -155,10 +155,10 @@ module _ {t values : List ℕ} {count inner n : ℕ} (s : Checking t values coun
   row-wrong f w = f (w .each n l)
 
   -- the first number of the row
-  parent-of : (p : ℕ) → p ≡ getD t (4 + 6 * n) 0 → p ≡ rowParent t n
-  parent-of p e = let f : 4 + 6 * n ≡ used n + 0 = omega arith in e ∙ ap (λ (i : ℕ). getD t i 0) f
+  parent-of : (p : ℕ) → p ≡ getD t (6 + 6 * n) 0 → p ≡ rowParent t n
+  parent-of p e = let f : 6 + 6 * n ≡ used n + 0 = omega arith in e ∙ ap (λ (i : ℕ). getD t i 0) f
 
-  pub check-goes : RowRight t values n → (p r : ℕ) → p ≡ getD t (4 + 6 * n) 0 → Climbed t inner p r → r ≡ p → (x : ℕ) → x ≡ opened t n p → Checking t values count x (n + 1)
+  pub check-goes : RowRight t values n → (p r : ℕ) → p ≡ getD t (6 + 6 * n) 0 → Climbed t inner p r → r ≡ p → (x : ℕ) → x ≡ opened t n p → Checking t values count x (n + 1)
   check-goes w p r q c e x o = let f = parent-of p q in rw (o, f) (check-own w r (rw f at c) (e ∙ f))
 
   own-wrong : (r : ℕ) → Climbed t inner (rowParent t n) r → (r ≡ rowParent t n → ⊥) → RowsRight t values count → ⊥
@@ -168,7 +168,7 @@ module _ {t values : List ℕ} {count inner n : ℕ} (s : Checking t values coun
       let y : _≡_ {A = ℕ} 0 1 = cc in
       omega arith
 
-  pub parent-wrong : (p r : ℕ) → p ≡ getD t (4 + 6 * n) 0 → Climbed t inner p r → (r ≡ p → ⊥) → RowsRight t values count → ⊥
+  pub parent-wrong : (p r : ℕ) → p ≡ getD t (6 + 6 * n) 0 → Climbed t inner p r → (r ≡ p → ⊥) → RowsRight t values count → ⊥
   parent-wrong p r q c e = let f = parent-of p q in own-wrong r (rw f at c) (λ z. e (z ∙ sym f))
 
   pub climbs : HasCells t count → Climbs t inner

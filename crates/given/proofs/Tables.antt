@@ -13,8 +13,7 @@ use Rattle.rules.specs.Sizes.{headerNumbers, used}
 use Rattle.rules.specs.Types.{isGroup}
 use Rattle.rules.specs.Standing.{kept}
 use Rattle.rules.specs.Octets.{numbersIn}
-use Rattle.rules.specs.Values.{cell, rowParent, rowType, rowInstance, rowPlace, rowLength, rowStanding}
-use Rattle.rules.specs.Built.{rowCount}
+use Rattle.rules.specs.Values.{rowCount, cell, rowParent, rowType, rowInstance, rowPlace, rowLength, rowStanding}
 use Rattle.rules.proofs.Numbers.{numbers-length, numbers-at}
 use Rattle.rules.proofs.Reasons.{RowRight, NoReason}
 use Rattle.emitting.specs.Emits.{Wide}
@@ -90,14 +89,14 @@ module _ {t : List ℕ} where
   pub its-kept : HeaderRight t → {x y : ℕ} → x ≡ getD t 0 0 → y ≡ getD t 1 0 → y ≡ x
   its-kept h e f = f ∙ h .kept-is ∙ sym e
 
-  pub its-place : HeaderRight t → {x : ℕ} → x ≡ getD t 2 0 → x ≡ 4
+  pub its-place : HeaderRight t → {x : ℕ} → x ≡ getD t 2 0 → x ≡ headerNumbers
   its-place h e = e ∙ h .place-is
 
-  pub its-used : HeaderRight t → {x y : ℕ} → x ≡ getD t 0 0 → y ≡ getD t 3 0 → y ≡ 4 + 6 * x
+  pub its-used : HeaderRight t → {x y : ℕ} → x ≡ getD t 0 0 → y ≡ getD t 3 0 → y ≡ used x
   its-used h e f = f ∙ h .used-is ∙ ap used (sym e)
 
-  pub header-by : 4 ≤ length t → {a c d e : ℕ} → a ≡ getD t 0 0 → c ≡ getD t 1 0 → d ≡ getD t 2 0 → e ≡ getD t 3 0 → c ≡ a → d ≡ 4 → e ≡ 4 + 6 * a
-      → 4 + 6 * a ≤ length t → HeaderRight t
+  pub header-by : headerNumbers ≤ length t → {a c d e : ℕ} → a ≡ getD t 0 0 → c ≡ getD t 1 0 → d ≡ getD t 2 0 → e ≡ getD t 3 0 → c ≡ a → d ≡ headerNumbers → e ≡ used a
+      → used a ≤ length t → HeaderRight t
   header-by l a c d e x y z long = record {
     long = l;
     all-there = omega (arith, long, a);
@@ -108,9 +107,9 @@ module _ {t : List ℕ} where
 
 -- ---- a row
 
-module _ (t : List ℕ) (n parent : ℕ) {x : ℕ} (e : x ≡ getD t (5 + 6 * n) 0) where
+module _ (t : List ℕ) (n parent : ℕ) {x : ℕ} (e : x ≡ getD t (7 + 6 * n) 0) where
   type-is : x ≡ rowType t n
-  type-is = let f : 5 + 6 * n ≡ used n + 1 = omega arith in e ∙ ap (λ (i : ℕ). getD t i 0) f
+  type-is = let f : 7 + 6 * n ≡ used n + 1 = omega arith in e ∙ ap (λ (i : ℕ). getD t i 0) f
 
   pub opened-group : isGroup x ≡ true → n + 1 ≡ opened t n parent
   opened-group g = rw (← type-is, g)
@@ -142,7 +141,7 @@ pub copy-begins : (count : ℕ) (t rows : List ℕ) → Copying count t rows row
 copy-begins count t rows = record { most = omega arith; size = refl; each = λ i l. absurd (omega arith) }
 
 pub copy-goes : (table : List ℕ) {count : ℕ} {rows₀ rows : List ℕ} {j : ℕ} → Copying count (tableIn [] table) rows₀ rows j → Copies count (tableIn [] table) rows₀ → j < count
-    → (x : ℕ) → x ≡ getD table (8 + 2 * j) 0 * 256 + getD table (9 + 2 * j) 0 → Copying count (tableIn [] table) rows₀ (set rows j x) (j + 1)
+    → (x : ℕ) → x ≡ getD table (12 + 2 * j) 0 * 256 + getD table (13 + 2 * j) 0 → Copying count (tableIn [] table) rows₀ (set rows j x) (j + 1)
 copy-goes table {count} {rows₀} {rows} {j} s p l x e = record {
   most = omega arith;
   size = length-set rows j x ∙ s .size;
@@ -151,12 +150,12 @@ copy-goes table {count} {rows₀} {rows} {j} s p l x e = record {
   where
     here : x ≡ getD (tableIn [] table) (headerNumbers + j) 0
     here =
-        let a : 8 + 2 * j ≡ 2 * (4 + j - 0) = omega arith in
-        let c : 9 + 2 * j ≡ 2 * (4 + j - 0) + 1 = omega arith in
+        let a : 12 + 2 * j ≡ 2 * (6 + j - 0) = omega arith in
+        let c : 13 + 2 * j ≡ 2 * (6 + j - 0) + 1 = omega arith in
         e
-        ∙ ap (λ (i : ℕ). getD table i 0 * 256 + getD table (9 + 2 * j) 0) a
-        ∙ ap (λ (i : ℕ). getD table (2 * (4 + j - 0)) 0 * 256 + getD table i 0) c
-        ∙ sym (number-later [] table (4 + j) (omega arith) (omega (arith, p .there)))
+        ∙ ap (λ (i : ℕ). getD table i 0 * 256 + getD table (13 + 2 * j) 0) a
+        ∙ ap (λ (i : ℕ). getD table (2 * (6 + j - 0)) 0 * 256 + getD table i 0) c
+        ∙ sym (number-later [] table (6 + j) (omega arith) (omega (arith, p .there)))
 
     pick : (i : ℕ) → i < j + 1 → Dec (i ≡ j) → getD (set rows j x) i 0 ≡ getD (tableIn [] table) (headerNumbers + i) 0
     pick i h (yes z) = rw z (getD-set-same rows j x 0 (omega (arith, s .size, p .room)) ∙ here)

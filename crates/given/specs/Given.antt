@@ -7,8 +7,8 @@ use lib.ListN.{length, getD}
 use Rattle.rules.specs.Sizes.{headerNumbers, used}
 use Rattle.rules.specs.Types.{among, isGroup}
 use Rattle.rules.specs.Octets.{numbersIn}
-use Rattle.rules.specs.Values.{rowParent, rowType}
-use Rattle.rules.specs.Built.{since, depthFirst, givens, rowCount}
+use Rattle.rules.specs.Values.{rowCount, rowParent, rowType}
+use Rattle.rules.specs.Built.{since, depthFirst, givens}
 use Rattle.rules.proofs.Reasons.{RowRight}
 
 -- the numbers of a table: one that is lent as numbers has no octets after them, and one that is lent as octets no numbers before

@@ -10,7 +10,7 @@ ghost use Rattle.emitting.specs.Emits.{Wide};
 ghost use Rattle.given.specs.Given.{tableIn, Told, HeaderRight, HasCells, HasCell, RowsRight, Climbs, Climbed, opened, Copies, Copied};
 
 // Two octets as a number, high octet first.
-pub(crate) fn two(high: u8, low: u8) -> u16
+pub fn two(high: u8, low: u8) -> u16
     ensures { λ r. ⌜ r ≡ high * 256 + low ⌝ }
 {
     high as u16 * 256 + low as u16
@@ -42,17 +42,17 @@ pub(crate) fn has(numbers: &[u16], octets: &[u8], n: usize) -> bool
 pub(crate) fn header_right(numbers: &[u16], octets: &[u8]) -> bool
     ensures { λ r. ⌜ Told (HeaderRight (tableIn (now (numbers .entry)) (now (octets .entry)))) r ⌝ }
 {
-    if !has(numbers, octets, 4) {
+    if !has(numbers, octets, 6) {
         return false;
     }
     let count = number(numbers, octets, 0);
     if number(numbers, octets, 1) != count {
         return false;
     }
-    if number(numbers, octets, 2) != 4 {
+    if number(numbers, octets, 2) != 6 {
         return false;
     }
-    let used = 4 + 6 * count;
+    let used = 6 + 6 * count;
     if number(numbers, octets, 3) != used {
         return false;
     }
@@ -70,7 +70,7 @@ pub(crate) fn row_right(
     requires { ⌜ (now types ≡ facts) × HasCell (tableIn (now numbers) (now octets)) n ⌝ }
     ensures { λ r. ⌜ Told (RowRight (tableIn (now (numbers .entry)) (now (octets .entry))) (now (values .entry)) n) r ⌝ }
 {
-    let at = 4 + 6 * n;
+    let at = 6 + 6 * n;
     if number(numbers, octets, at + 5) != 0 {
         return false;
     }
@@ -96,7 +96,7 @@ pub(crate) fn climb(numbers: &[u16], octets: &[u8], inner: usize, parent: usize)
 {
     let mut a = inner;
     while parent < a {
-        a = number(numbers, octets, 6 * a - 2);
+        a = number(numbers, octets, 6 * a);
     }
     a
 }
@@ -112,7 +112,7 @@ pub(crate) fn opened(
     requires { ⌜ (now types ≡ facts) × HasCell (tableIn (now numbers) (now octets)) n ⌝ }
     ensures { λ r. ⌜ r ≡ opened (tableIn (now (numbers .entry)) (now (octets .entry))) n parent ⌝ }
 {
-    let typ = number(numbers, octets, 5 + 6 * n);
+    let typ = number(numbers, octets, 7 + 6 * n);
     if emitting::is_group(types, typ as u16) {
         return n + 1;
     }
@@ -136,7 +136,7 @@ pub(crate) fn rows_right(
         if !row_right(types, numbers, octets, n, values) {
             return false;
         }
-        let parent = number(numbers, octets, 4 + 6 * n);
+        let parent = number(numbers, octets, 6 + 6 * n);
         if climb(numbers, octets, inner, parent) != parent {
             return false;
         }
@@ -168,7 +168,7 @@ pub fn copy_rows(table: &[u8], count: usize, rows: &mut [u16])
 {
     let mut j = 0;
     while j < count {
-        rows[j] = two(table[8 + 2 * j], table[9 + 2 * j]);
+        rows[j] = two(table[12 + 2 * j], table[13 + 2 * j]);
         j += 1;
     }
 }

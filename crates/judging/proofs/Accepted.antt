@@ -12,6 +12,7 @@ use lib.Dec.{ltb}
 use lib.ListN.{length, take, drop, length-append}
 use lib.Seq.{take-at}
 use Rattle.rules.specs.Sizes.{mostRows, rowNumbers, used}
+use Rattle.rules.specs.Framing.{messageType}
 use Rattle.rules.specs.Listings.{book}
 use Rattle.rules.specs.Table.{rowsOf, keptRows, header, tableOf, numbersBy, laid}
 use Rattle.rules.specs.Verdicts.{refused, refuses, first, framingChecks, tableChecks, judgeChecks, judgeVerdict, judgeTable, items}
@@ -31,7 +32,7 @@ pub record Ready (k : ℕ) (m rows : List ℕ) (room : ℕ) (d : Decision) : Typ
   pub kept-few : d .kept ≤ d .rows
   pub there : rowNumbers * d .rows ≤ length rows
   pub fits : used (d .rows) ≤ room
-  pub numbers : numbersBy (d .rows) (d .kept) rows ≡ tableOf (items book k m)
+  pub numbers : numbersBy (d .rows) (d .kept) (d .typ) (d .kind) rows ≡ tableOf (messageType m) k (items book k m)
 
 module _ (k : ℕ) (m : List ℕ) {rows rows′ : List ℕ} {room : ℕ} {d : Decision} (x : Decided k m rows room d rows′) where
   pub verdict-is : d .verdict ≡ judgeVerdict book k m room
@@ -55,6 +56,14 @@ module _ (k : ℕ) (m : List ℕ) {rows rows′ : List ℕ} {room : ℕ} {d : De
   module _ (ok : d .verdict .code ≡ 0) (held : rowNumbers * d .rows ≤ length rows) where
     accepts : refuses (judgeVerdict book k m room) ≡ false
     accepts = rw (← verdict-is, ok)
+
+    typ-is : d .typ ≡ messageType m
+    unfolding decisionOf
+    typ-is = ap (λ (a : Decision). a .typ) (x .answers) ∙ rw accepts
+
+    kind-of : d .kind ≡ k
+    unfolding decisionOf
+    kind-of = ap (λ (a : Decision). a .kind) (x .answers) ∙ rw accepts
 
     passes : (refuses (first (framingChecks book k m)) ≡ false) × (refuses (first (tableChecks book k m room)) ≡ false)
     unfolding judgeChecks
@@ -84,7 +93,7 @@ module _ (k : ℕ) (m : List ℕ) {rows rows′ : List ℕ} {room : ℕ} {d : De
           kept-few = rw (rows-is, kept-counted) (kept-most (items book k m));
           there = rw (scratch-is, rows-is) (omega (arith, n, length-append (rowsOf (items book k m)) (drop (length (rowsOf (items book k m))) rows)));
           fits = rw rows-is table-fits;
-          numbers = rw (rows-is, kept-counted, t);
+          numbers = rw (rows-is, kept-counted, typ-is, kind-of, t);
         }
 
 module _ (k : ℕ) (m table : List ℕ) {rows rows′ : List ℕ} {d : Decision} (x : Decided k m rows (length table) d rows′) (held : rowNumbers * d .rows ≤ length rows) where
@@ -95,6 +104,6 @@ module _ (k : ℕ) (m table : List ℕ) {rows rows′ : List ℕ} {d : Decision}
   unfolding judgeTable
   judged s = record { answers = s .answers ∙ verdict-is k m x; table-left = s .table-left ∙ go (refuses (d .verdict)) refl }
     where
-      go : (c : Bool) → refuses (d .verdict) ≡ c → cond c table (laid (numbersBy (d .rows) (d .kept) rows′) table) ≡ judgeTable book k m table
+      go : (c : Bool) → refuses (d .verdict) ≡ c → cond c table (laid (numbersBy (d .rows) (d .kept) (d .typ) (d .kind) rows′) table) ≡ judgeTable book k m table
       go true e = rw (← verdict-is k m x, e)
       go false e = let r = ready k m x (omega (arith, ltb-false 0 (d .verdict .code) e)) held in rw (r .accepts, r .numbers)

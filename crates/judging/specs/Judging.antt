@@ -30,4 +30,4 @@ Settles d rows table = d .verdict .code ≡ 0 → Writable (d .rows) (d .kept) r
 -- and is written then alone
 pub record Settled (d : Decision) (rows table : List ℕ) (answer : Verdict) (table′ : List ℕ) : Type 0 where
   pub answers : answer ≡ d .verdict
-  pub table-left : table′ ≡ cond (refuses (d .verdict)) table (laid (numbersBy (d .rows) (d .kept) rows) table)
+  pub table-left : table′ ≡ cond (refuses (d .verdict)) table (laid (numbersBy (d .rows) (d .kept) (d .typ) (d .kind) rows) table)

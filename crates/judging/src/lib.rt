@@ -21,53 +21,67 @@ fn verdict_on(r: Reading, room: usize) -> Verdict
     if refusal.code != 0 {
         return refusal;
     }
-    if room < 4 + 6 * r.rows {
+    if room < 6 + 6 * r.rows {
         return answers::refuse(10, 0);
     }
     answers::first_of(r.short, r.lack)
 }
 
-// The verdict on a message for a table of `room` numbers, with its rows and kept rows; the rows themselves go to `rows`, as many as there
+// The verdict on a message for a table of `room` numbers, with the numbers of its header; the rows themselves go to `rows`, as many as there
 // is room for.
 pub fn decide(kind: u32, message: &[u8], rows: &mut [u16], room: usize) -> Decision
     ensures { λ r. ⌜ Decided kind (now (message .entry)) (now (rows .entry)) room r (now (rows .exit)) ⌝ }
 {
     let r = reading::read(kind, message, rows);
+    let v = verdict_on(r, room);
+    if v.code == 0 {
+        return Decision {
+            verdict: v,
+            rows: r.rows,
+            kept: r.kept,
+            typ: message[1] as u16,
+            kind: kind as u16,
+        };
+    }
     Decision {
-        verdict: verdict_on(r, room),
+        verdict: v,
         rows: r.rows,
         kept: r.kept,
+        typ: 0,
+        kind: 0,
     }
 }
 
-// The header: rows, kept rows, place of the first row, numbers used.
-fn write_header(n: usize, kept: usize, table: &mut [u16])
-    requires { ⌜ (n ≤ mostRows) × (kept ≤ n) × (4 ≤ length (now table)) ⌝ }
-    ensures { λ _. ⌜ now (table .exit) ≡ (n ∷ kept ∷ 4 ∷ used n ∷ []) ++ drop 4 (now (table .entry)) ⌝ }
+// The header: rows, kept rows, place of the first row, numbers used, message type, kind.
+fn write_header(n: usize, kept: usize, typ: u16, kind: u16, table: &mut [u16])
+    requires { ⌜ (n ≤ mostRows) × (kept ≤ n) × (6 ≤ length (now table)) ⌝ }
+    ensures { λ _. ⌜ now (table .exit) ≡ (n ∷ kept ∷ 6 ∷ used n ∷ typ ∷ kind ∷ []) ++ drop 6 (now (table .entry)) ⌝ }
 {
     table[0] = n as u16;
     table[1] = kept as u16;
-    table[2] = 4;
-    table[3] = (4 + 6 * n) as u16;
+    table[2] = 6;
+    table[3] = (6 + 6 * n) as u16;
+    table[4] = typ;
+    table[5] = kind;
 }
 
 // The first `count` numbers of `rows`, after the header.
 fn copy_rows(rows: &[u16], count: usize, table: &mut [u16])
-    requires { ⌜ (count ≤ length (now rows)) × (4 + count ≤ length (now table)) ⌝ }
-    ensures { λ _. ⌜ now (table .exit) ≡ paste (now (table .entry)) 4 (now (rows .entry)) count ⌝ }
+    requires { ⌜ (count ≤ length (now rows)) × (6 + count ≤ length (now table)) ⌝ }
+    ensures { λ _. ⌜ now (table .exit) ≡ paste (now (table .entry)) 6 (now (rows .entry)) count ⌝ }
 {
     let mut i = 0;
     while i < count {
-        table[4 + i] = rows[i];
+        table[6 + i] = rows[i];
         i += 1;
     }
 }
 
-fn write_table(rows: &[u16], n: usize, kept: usize, table: &mut [u16])
+fn write_table(rows: &[u16], n: usize, kept: usize, typ: u16, kind: u16, table: &mut [u16])
     requires { ⌜ Writable n kept (now rows) (now table) ⌝ }
-    ensures { λ _. ⌜ now (table .exit) ≡ laid (numbersBy n kept (now (rows .entry))) (now (table .entry)) ⌝ }
+    ensures { λ _. ⌜ now (table .exit) ≡ laid (numbersBy n kept typ kind (now (rows .entry))) (now (table .entry)) ⌝ }
 {
-    write_header(n, kept, table);
+    write_header(n, kept, typ, kind, table);
     copy_rows(rows, 6 * n, table);
 }
 
@@ -80,7 +94,7 @@ pub(crate) fn settle(d: Decision, rows: &[u16], table: &mut [u16]) -> Verdict
     if v.code != 0 {
         return v;
     }
-    write_table(rows, d.rows, d.kept, table);
+    write_table(rows, d.rows, d.kept, d.typ, d.kind, table);
     v
 }
 

@@ -42,7 +42,7 @@ module _ (k : ℕ) (m out : List ℕ) {rows rows′ : List ℕ} {d : Decision} (
 
     rows-are : take (6 * d .rows) rows′ ≡ rowsOf (items book k m)
     unfolding tableOf header
-    rows-are = ap (drop 4) (q .numbers)
+    rows-are = ap (drop 6) (q .numbers)
 
     all-lines : linesFrom rows′ 0 (d .rows) ≡ rowLines (items book k m)
     all-lines =

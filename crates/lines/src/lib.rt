@@ -57,7 +57,7 @@ fn report(kind: u32, message: &[u8], out: &mut [u8]) -> usize
     ensures { λ r. ⌜ Reported kind (now (message .entry)) (now (out .entry)) r (now (out .exit)) ⌝ }
 {
     let mut rows = scratch::large();
-    let d = judging::decide(kind, message, &mut rows, 6136);
+    let d = judging::decide(kind, message, &mut rows, 6138);
     let v = d.verdict;
     if v.code != 0 {
         return said(b"refuse", &[v.code, v.cause, v.place, v.typ, v.inst], out);

@@ -7,6 +7,7 @@ use libc::STDOUT_FILENO;
 use text::after;
 use text::field;
 use text::find;
+use text::long;
 use text::number;
 use text::numbers;
 use text::octets;
@@ -37,38 +38,47 @@ fn print_answer(found: bool, part: &[u8]) {
     io::write_all(STDOUT_FILENO, b"\n");
 }
 
-fn say_plain(typ: u16, inst: u16, message: &[u8], table: &[u16]) {
-    let found = lookup::plain_found(typ, inst, message, table);
-    print_answer(found, lookup::plain(typ, inst, message, table));
+fn say_plain(kind: u32, typ: u16, inst: u16, message: &[u8], table: &[u16]) {
+    let found = lookup::plain_found(kind, typ, inst, message, table);
+    print_answer(found, lookup::plain(kind, typ, inst, message, table));
 }
 
-// plain TYPE INSTANCE MESSAGE TABLE
+// plain KIND TYPE INSTANCE MESSAGE TABLE
 fn answer_plain(line: &[u8]) {
-    let typ = short(number(field(line, 1)));
-    let inst = short(number(field(line, 2)));
+    let kind = long(number(field(line, 1)));
+    let typ = short(number(field(line, 2)));
+    let inst = short(number(field(line, 3)));
     let mut message = io::large_buffer();
-    let m = octets(field(line, 3), &mut message);
-    let mut table = table_buffer();
-    let t = numbers(field(line, 4), &mut table);
-    say_plain(typ, inst, &message[..m], &table[..t]);
-}
-
-fn say_desk<'a>(row: usize, right: bool, message: &'a [u8], copy: &'a [u8], table: &[u16]) {
-    let found = lookup::desk_found(row, right, message, copy, table);
-    print_answer(found, lookup::desk(row, right, message, copy, table));
-}
-
-// desk ROW RIGHT MESSAGE COPY TABLE
-fn answer_desk(line: &[u8]) {
-    let row = number(field(line, 1));
-    let right = number(field(line, 2)) == 1;
-    let mut message = io::large_buffer();
-    let m = octets(field(line, 3), &mut message);
-    let mut copy = io::large_buffer();
-    let c = octets(field(line, 4), &mut copy);
+    let m = octets(field(line, 4), &mut message);
     let mut table = table_buffer();
     let t = numbers(field(line, 5), &mut table);
-    say_desk(row, right, &message[..m], &copy[..c], &table[..t]);
+    say_plain(kind, typ, inst, &message[..m], &table[..t]);
+}
+
+fn say_desk<'a>(
+    kind: u32,
+    row: usize,
+    right: bool,
+    message: &'a [u8],
+    copy: &'a [u8],
+    table: &[u16],
+) {
+    let found = lookup::desk_found(kind, row, right, message, copy, table);
+    print_answer(found, lookup::desk(kind, row, right, message, copy, table));
+}
+
+// desk KIND ROW RIGHT MESSAGE COPY TABLE
+fn answer_desk(line: &[u8]) {
+    let kind = long(number(field(line, 1)));
+    let row = number(field(line, 2));
+    let right = number(field(line, 3)) == 1;
+    let mut message = io::large_buffer();
+    let m = octets(field(line, 4), &mut message);
+    let mut copy = io::large_buffer();
+    let c = octets(field(line, 5), &mut copy);
+    let mut table = table_buffer();
+    let t = numbers(field(line, 6), &mut table);
+    say_desk(kind, row, right, &message[..m], &copy[..c], &table[..t]);
 }
 
 fn answer(line: &[u8]) {

@@ -104,6 +104,14 @@ pub(crate) fn short(x: usize) -> u16 {
     65535
 }
 
+// The same with 32 bits.
+pub(crate) fn long(x: usize) -> u32 {
+    if x < 4294967296 {
+        return x as u32;
+    }
+    4294967295
+}
+
 fn is_empty(digits: &[u8]) -> bool {
     if digits.len() != 1 {
         return false;

@@ -18,7 +18,7 @@ misfit rows n kept table =
     ltb mostRows n || (ltb n kept || (ltb (length rows) (rowNumbers * n) || ltb (length table) (2 * used n)))
 
 -- header and n rows as octets at the start of a table, which stays as it is if they do not fit
-unfoldable pub tableStored : List ℕ → ℕ → ℕ → List ℕ → List ℕ
-tableStored rows n kept table =
+unfoldable pub tableStored : List ℕ → ℕ → ℕ → ℕ → ℕ → List ℕ → List ℕ
+tableStored rows n kept typ kind table =
     cond (misfit rows n kept table) table
-    (laid (octetsOf (numbersBy n kept rows)) table)
+    (laid (octetsOf (numbersBy n kept typ kind rows)) table)

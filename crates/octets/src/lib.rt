@@ -42,32 +42,34 @@ pub fn put_answer(v: Verdict, length: u16, answer: &mut [u8])
     put(answer, 10, length);
 }
 
-// A table's header: rows, kept rows, place of the first row, numbers used.
-fn put_header(n: usize, kept: usize, table: &mut [u8])
-    requires { ⌜ (n ≤ mostRows) × (kept ≤ n) × (8 ≤ length (now table)) ⌝ }
-    ensures { λ _. ⌜ now (table .exit) ≡ octetsOf (n ∷ kept ∷ 4 ∷ used n ∷ []) ++ drop 8 (now (table .entry)) ⌝ }
+// A table's header: rows, kept rows, place of the first row, numbers used, message type, kind.
+fn put_header(n: usize, kept: usize, typ: u16, kind: u16, table: &mut [u8])
+    requires { ⌜ (n ≤ mostRows) × (kept ≤ n) × (12 ≤ length (now table)) ⌝ }
+    ensures { λ _. ⌜ now (table .exit) ≡ octetsOf (n ∷ kept ∷ 6 ∷ used n ∷ typ ∷ kind ∷ []) ++ drop 12 (now (table .entry)) ⌝ }
 {
     put(table, 0, n as u16);
     put(table, 2, kept as u16);
-    put(table, 4, 4);
-    put(table, 6, (4 + 6 * n) as u16);
+    put(table, 4, 6);
+    put(table, 6, (6 + 6 * n) as u16);
+    put(table, 8, typ);
+    put(table, 10, kind);
 }
 
 // The first `count` numbers of `rows`, after the header.
 fn put_rows(rows: &[u16], count: usize, table: &mut [u8])
-    requires { ⌜ (count ≤ length (now rows)) × (8 + 2 * count ≤ length (now table)) ⌝ }
-    ensures { λ _. ⌜ now (table .exit) ≡ paste (now (table .entry)) 8 (octetsOf (now (rows .entry))) (2 * count) ⌝ }
+    requires { ⌜ (count ≤ length (now rows)) × (12 + 2 * count ≤ length (now table)) ⌝ }
+    ensures { λ _. ⌜ now (table .exit) ≡ paste (now (table .entry)) 12 (octetsOf (now (rows .entry))) (2 * count) ⌝ }
 {
     let mut i = 0;
     while i < count {
-        put(table, 8 + 2 * i, rows[i]);
+        put(table, 12 + 2 * i, rows[i]);
         i += 1;
     }
 }
 
-// The table of the first `n` rows of `rows`, six numbers each. Nothing is written if it does not fit.
-pub fn put_table(rows: &[u16], n: usize, kept: usize, table: &mut [u8])
-    ensures { λ _. ⌜ now (table .exit) ≡ tableStored (now (rows .entry)) n kept (now (table .entry)) ⌝ }
+// The table of the first `n` rows of `rows`, six numbers each, of a message type and a kind. Nothing is written if it does not fit.
+pub fn put_table(rows: &[u16], n: usize, kept: usize, typ: u16, kind: u16, table: &mut [u8])
+    ensures { λ _. ⌜ now (table .exit) ≡ tableStored (now (rows .entry)) n kept typ kind (now (table .entry)) ⌝ }
 {
     if 1022 < n {
         return;
@@ -78,9 +80,9 @@ pub fn put_table(rows: &[u16], n: usize, kept: usize, table: &mut [u8])
     if rows.len() < 6 * n {
         return;
     }
-    if table.len() < 2 * (4 + 6 * n) {
+    if table.len() < 2 * (6 + 6 * n) {
         return;
     }
-    put_header(n, kept, table);
+    put_header(n, kept, typ, kind, table);
     put_rows(rows, 6 * n, table);
 }

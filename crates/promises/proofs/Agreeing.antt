@@ -20,6 +20,7 @@ use Rattle.rules.specs.Listings.{Book, messageOf}
 use Rattle.rules.specs.Standing.{Item, fresh, itemOf, standing, marked, entered}
 use Rattle.rules.specs.Taking.{whole, taken, bodyLevel}
 use Rattle.rules.specs.Met.{At, Met, ends, alone, group}
+use Rattle.rules.specs.Values.{isOf}
 use Rattle.rules.specs.Verdicts.{first, refuses, headerChecks, framingChecks, judgeChecks, maskChecks, judgeVerdict, maskVerdict, judgeTable}
 use Rattle.rules.specs.Covered.{coveredIn, covered, masked, maskCopy}
 use Rattle.rules.specs.Octets.{tableRoom, judgeOctets}
@@ -199,6 +200,7 @@ pub record SameReading (b : Book) (k : ℕ) (m n : List ℕ) : Type 0 where
   pub header : headerChecks b k n ≡ headerChecks b k m
   pub level : bodyLevel b n ≡ bodyLevel b m
   pub rows : taken b k n ≡ taken b k m
+  pub typ : messageType n ≡ messageType m
 
 module _ (b : Book) (k : ℕ) (m n : List ℕ) (size : length n ≡ length m) (first-four : (j : ℕ) → j < 4 → octet m j ≡ octet n j) where
   same-version : version n ≡ version m
@@ -259,6 +261,7 @@ module _ (b : Book) (fine : sound b ≡ true) (k : ℕ) (m n : List ℕ) (s : Sa
       record {
         header = same-header b k m n (s .size) four;
         level = v;
+        typ = same-type b k m n (s .size) four;
         rows = framed-rows f (λ j u. covered-rows b k m e j ∙ rw (f .takes) u) h v ∙ sym (f .takes);
       }
 
@@ -266,7 +269,7 @@ module _ (b : Book) (fine : sound b ≡ true) (k : ℕ) (m n : List ℕ) (s : Sa
   same-reading = go (refuses (first (framingChecks b k m))) refl
     where
       go : (r : Bool) → refuses (first (framingChecks b k m)) ≡ r → SameReading b k m n
-      go true e = rw (refused-same e) (record { header = refl; level = refl; rows = refl })
+      go true e = rw (refused-same e) (record { header = refl; level = refl; typ = refl; rows = refl })
       go false e = framed-same e
 
   -- ---- demand 3 (a)
@@ -282,18 +285,23 @@ module _ (b : Book) (fine : sound b ≡ true) (k : ℕ) (m n : List ℕ) (s : Sa
   unfolding covered
   same-covered j = rw (same-framing, same-taken)
 
+  -- what the lookups ask of a message, whose type is open
+  pub same-is-of : (t : List ℕ) → isOf k n t ≡ isOf k m t
+  unfolding isOf messageType
+  same-is-of t = rw (s .size, same-reading .typ)
+
   pub same-verdict : (room : ℕ) → judgeVerdict b k n room ≡ judgeVerdict b k m room
   unfolding judgeChecks
   same-verdict room = rw (same-framing, same-taken, same-reading .level)
 
   pub same-table : (table : List ℕ) → judgeTable b k n table ≡ judgeTable b k m table
   unfolding judgeTable
-  same-table table = rw (same-verdict (length table), same-taken)
+  same-table table = rw (same-verdict (length table), same-taken, same-reading .typ)
 
   -- the table of the export to C
   pub same-octets : (table : List ℕ) → judgeOctets b k n table ≡ judgeOctets b k m table
   unfolding judgeOctets
-  same-octets table = rw (same-verdict (tableRoom table), same-taken)
+  same-octets table = rw (same-verdict (tableRoom table), same-taken, same-reading .typ)
 
   pub same-mask-verdict : (room : ℕ) → maskVerdict b k n room ≡ maskVerdict b k m room
   unfolding maskChecks

@@ -6,20 +6,20 @@ use mathlib.Core.Bool.{Bool, true, false, cond, not, _&&_}
 use mathlib.Core.List.{List, [], _∷_, _++_}
 use Prim.Native.Nat.{ℕ, _+_, _*_, _≤_, _<_}
 use native.Mathlib.Omega.{arith}
-use borrow.Author.Tests.{eqb-true, eq-eqb}
+use borrow.Author.Tests.{eqb-true, eq-eqb, lt-ltb, le-ltb}
 use lib.Dec.{eqb}
 use lib.ListN.{length, take, drop, getD}
-use Rattle.rules.specs.Sizes.{used}
+use Rattle.rules.specs.Sizes.{headerNumbers, used}
 use Rattle.rules.specs.Framing.{octet, flagT, messageType, headerLength}
 use Rattle.rules.specs.Types.{isGroup}
 use Rattle.rules.specs.Listings.{Message, book, messageOf}
 use Rattle.rules.specs.Standing.{Item, kept}
 use Rattle.rules.specs.Taking.{whole, taken, itemsIn}
 use Rattle.rules.specs.Table.{keptRows, tableOf, laid, nth}
-use Rattle.rules.specs.Values.{rowPlace}
+use Rattle.rules.specs.Values.{rowPlace, rowCount, tableType, tableKind}
 use Rattle.rules.specs.Verdicts.{accepted, refused, refuses, check, first, items, judgeVerdict}
 use Rattle.rules.specs.Emitting.{amply, acceptedWhole}
-use Rattle.rules.specs.Built.{firstOf, restOf, rowCount, teidOf, sequenceOf, ZeroBits, built, buildChecks, buildVerdict, buildLength, buildRoom}
+use Rattle.rules.specs.Built.{firstOf, restOf, teidOf, sequenceOf, ZeroBits, built, buildChecks, buildVerdict, buildLength, buildRoom, lateVerdict, headedChecks, builtBy}
 use Rattle.rules.specs.Answers.{Judged, Builds}
 use Rattle.rules.specs.declared.Verdict.{Verdict}
 use Rattle.rules.specs.declared.Sent.{Sent}
@@ -31,9 +31,9 @@ use Rattle.tables.proofs.Rowed.{Begins, laid-begins, row-of, count-of, kept-of}
 use Rattle.verdicts.proofs.Laying.{laid-take, laid-drop, enough-room, accepted-table}
 use Rattle.emitted.proofs.Refusals.{amply-roomy}
 use Rattle.emitted.proofs.Wholes.{amply-accepted}
-use Rattle.emitted.proofs.Building.{build-accepted, build-fits}
+use Rattle.emitted.proofs.Building.{build-accepted, headed-pass}
 use Rattle.emitted.proofs.BuiltRows.{BuiltAs, built-count, built-kept, built-as}
-use Rattle.emitted.proofs.Rebuilding.{rebuilt, rebuilt-accepted}
+use Rattle.emitted.proofs.Rebuilding.{rebuilt-itself, rebuilt-accepted}
 use Rattle.promises.specs.Building.{SameRow, SameRows, HasHead, NumberAlone}
 use Rattle.promises.proofs.Commuting.{amply-whole}
 use Rattle.promises.proofs.Cleaned.{not-refused, judge-accepted}
@@ -79,29 +79,49 @@ alone-first : (c : Bool) (n : ℕ) (vs : List Verdict) → NumberAlone (first vs
 unfolding first check
 alone-first c n vs p = alone-of (refuses (check c (refused n 0))) (check c (refused n 0)) (first vs) (alone-of c (refused n 0) accepted (alone n) (alone 0)) p
 
-module _ {k typ teid sequence : ℕ} {t values lent : List ℕ} {s : Sent} {left : List ℕ} (c : Builds k typ teid sequence t values lent s left) where
+-- ---- a table too short for a header, and any other
+
+module _ (teid sequence : ℕ) (t values : List ℕ) (room : ℕ) where
+  pub short-table : length t < headerNumbers → buildVerdict book teid sequence t values room ≡ refused 14 0
+  unfolding headedChecks first check
+  short-table l = rw (lt-ltb (length t) headerNumbers l)
+
+  pub long-table : headerNumbers ≤ length t → buildVerdict book teid sequence t values room ≡ lateVerdict book (tableKind t) (tableType t) teid sequence t values room
+  unfolding headedChecks first check
+  long-table l = rw (le-ltb (length t) headerNumbers l)
+
+module _ {teid sequence : ℕ} {t values lent : List ℕ} {s : Sent} {left : List ℕ} (c : Builds teid sequence t values lent s left) where
   pub build-alone : NumberAlone (s .verdict)
-  unfolding buildChecks
-  build-alone = rw (c .verdict-is) (alone-first _ 1 _ (alone-first _ 7 _ (alone-first _ 14 _ (alone-first _ 15 _ (alone-first _ 16 [] alone-none)))))
+  unfolding headedChecks buildChecks
+  build-alone = rw (c .verdict-is) (alone-first _ 14 _ (alone-first _ 1 _ (alone-first _ 7 _ (alone-first _ 14 _ (alone-first _ 15 _ (alone-first _ 16 [] alone-none))))))
 
   pub build-left-alone : refuses (s .verdict) ≡ true → (left ≡ lent) × (s .length ≡ 0)
   unfolding buildRoom buildLength
   build-left-alone e = let z = rw (c .verdict-is) at e in (c .room-left ∙ rw z, c .length-is ∙ rw z)
 
+  abbrev k : ℕ
+  k = tableKind t
+
+  abbrev typ : ℕ
+  typ = tableType t
+
   abbrev made : List ℕ
-  made = built book k typ teid sequence t values
+  made = builtBy book teid sequence t values
 
   module _ (a : s .verdict ≡ accepted) where
-    open-verdict : refuses (buildVerdict book k typ teid sequence t values (length lent)) ≡ false
-    open-verdict = rw (c .verdict-is) at (not-refused (s .verdict) a)
+    open-all : refuses (buildVerdict book teid sequence t values (length lent)) ≡ false
+    open-all = rw (c .verdict-is) at (not-refused (s .verdict) a)
+
+    open-verdict : refuses (lateVerdict book k typ teid sequence t values (length lent)) ≡ false
+    open-verdict = headed-pass book book-sound teid sequence t values (length lent) open-all
 
     pub answered : s .length ≡ length made
     unfolding buildLength
-    answered = c .length-is ∙ rw open-verdict
+    answered = c .length-is ∙ rw open-all
 
     left-is : left ≡ laid made lent
     unfolding buildRoom
-    left-is = c .room-left ∙ rw open-verdict
+    left-is = c .room-left ∙ rw open-all
 
     pub is-built : take (s .length) left ≡ made
     is-built = rw (answered, left-is) (laid-take made lent)
@@ -142,7 +162,7 @@ module _ {k typ teid sequence : ℕ} {t values lent : List ℕ} {s : Sent} {left
         rw (amply-roomy book k made (length U) fits) (amply-whole book k made all)
 
     rows-begin : {U : List ℕ} {w : Verdict} {u : List ℕ} → Judged k made U w u → used (rows t) ≤ length U → Begins u es
-    rows-begin {U} q l = rw (q .table-left ∙ accepted-table book k made U (judged-ok U l)) (laid-begins es U)
+    rows-begin {U} q l = rw (q .table-left ∙ accepted-table book k made U (judged-ok U l)) (laid-begins (messageType made) k es U)
 
     -- it is accepted with a table that has room for the rows given, and those are its rows
     pub built-judged : {U : List ℕ} {w : Verdict} {u : List ℕ} → Judged k (take (s .length) left) U w u → used (rows t) ≤ length U
@@ -184,11 +204,11 @@ module _ {k : ℕ} {m T : List ℕ} {v : Verdict} {t : List ℕ} (j : Judged k m
   ample : refuses (amply book k m) ≡ false
   ample = rw (amply-roomy book k m (length T) (enough-room book k m (length T) ok)) at ok
 
-  table-is : t ≡ laid (tableOf is) T
+  table-is : t ≡ laid (tableOf (messageType m) k is) T
   table-is = j .table-left ∙ accepted-table book k m T ok
 
   begins : Begins t is
-  begins = rw table-is (laid-begins is T)
+  begins = rw table-is (laid-begins (messageType m) k is T)
 
   whole-accepted : acceptedWhole book k m ≡ true
   whole-accepted =
@@ -199,19 +219,19 @@ module _ {k : ℕ} {m T : List ℕ} {v : Verdict} {t : List ℕ} (j : Judged k m
   taking = let r = amply-accepted book k m ample in r .1 .taken-whole ∙ rw (r .1 .taken-whole)
 
   abbrev extra : List ℕ
-  extra = drop (length (tableOf is)) T
+  extra = drop (length (tableOf (messageType m) k is)) T
 
-  table-front : t ≡ tableOf is ++ extra
+  table-front : t ≡ tableOf (messageType m) k is ++ extra
   unfolding laid
   table-front = table-is
 
-  pub rebuilt-same : {lent : List ℕ} {s : Sent} {left : List ℕ} → Builds k (messageType m) (teidOf m) (sequenceOf m) t m lent s left → length m ≤ length lent
+  pub rebuilt-same : {lent : List ℕ} {s : Sent} {left : List ℕ} → Builds (teidOf m) (sequenceOf m) t m lent s left → length m ≤ length lent
       → (s .verdict ≡ accepted) × (s .length ≡ length m) × (take (s .length) left ≡ m)
   rebuilt-same {lent} {s} {left} c l =
-      let b : ZeroBits m (tableOf is ++ extra) = rw table-front at bits in
-      let d : Builds k (messageType m) (teidOf m) (sequenceOf m) (tableOf is ++ extra) m lent s left = rw table-front at c in
+      let b : ZeroBits m (tableOf (messageType m) k is ++ extra) = rw table-front at bits in
+      let d : Builds (teidOf m) (sequenceOf m) (tableOf (messageType m) k is ++ extra) m lent s left = rw table-front at c in
       let pass = rebuilt-accepted book book-sound k m o whole-accepted is taking extra b (length lent) l in
       let yes-too : s .verdict ≡ accepted =
-      d .verdict-is ∙ first-pass (buildChecks book k (messageType m) (teidOf m) (sequenceOf m) (tableOf is ++ extra) m (length lent)) (all-pass (buildChecks book k (messageType m) (teidOf m) (sequenceOf m) (tableOf is ++ extra) m (length lent)) .0 pass) in
-      let same = rebuilt book book-sound k m o whole-accepted is taking extra b in
+      d .verdict-is ∙ first-pass (headedChecks book (teidOf m) (sequenceOf m) (tableOf (messageType m) k is ++ extra) m (length lent)) (all-pass (headedChecks book (teidOf m) (sequenceOf m) (tableOf (messageType m) k is ++ extra) m (length lent)) .0 pass) in
+      let same = rebuilt-itself book book-sound k m o whole-accepted is taking extra b in
       (yes-too, answered d yes-too ∙ ap length same, is-built d yes-too ∙ same)

@@ -15,7 +15,7 @@ use lib.Dec.{eqb, ltb}
 use lib.ListN.{length, take, drop, getD, length-take, length-drop, List·getD-append}
 use lib.Seq.{take-length, getD-take, getD-drop, length-take-le}
 use Rattle.rules.specs.Sizes.{mostRows, rowNumbers, used}
-use Rattle.rules.specs.Framing.{octet, headerLength}
+use Rattle.rules.specs.Framing.{messageType, octet, headerLength}
 use Rattle.rules.specs.Types.{isGroup}
 use Rattle.rules.specs.Listings.{Book, book}
 use Rattle.rules.specs.Standing.{Item, kept, valuePlace}
@@ -246,8 +246,8 @@ module _ {k : ℕ} {m lent : List ℕ} {s : Sent} {left : List ℕ} (c : Cleans 
         let ok′ : refuses (judgeVerdict book k (cleaned book k m) (length U)) ≡ false =
         rw (amply-roomy book k (cleaned book k m) (length U) fits) (amply-whole book k (cleaned book k m) whole) in
         let kept-all = and-right (not (refuses (amply book k (cleaned book k m)))) (eqb (keptRows (items book k (cleaned book k m))) (length (items book k (cleaned book k m)))) whole in
-        let bt : Begins t (items book k m) = rw (x .table-left ∙ accepted-table book k m T ok) (laid-begins (items book k m) T) in
-        let bu : Begins u (items book k (cleaned book k m)) = rw (q .table-left ∙ accepted-table book k (cleaned book k m) U ok′) (laid-begins (items book k (cleaned book k m)) U) in (
+        let bt : Begins t (items book k m) = rw (x .table-left ∙ accepted-table book k m T ok) (laid-begins (messageType m) k (items book k m) T) in
+        let bu : Begins u (items book k (cleaned book k m)) = rw (q .table-left ∙ accepted-table book k (cleaned book k m) U ok′) (laid-begins (messageType (cleaned book k m)) k (items book k (cleaned book k m)) U) in (
           q .answers ∙ judge-accepted k (cleaned book k m) (length U) ok′,
           rw is-copy
               (clean-rows-of m (cleaned book k m) (items book k m) (items book k (cleaned book k m)) t u bt bu (eqb-true _ _ kept-all) count (rows-backward k m amply-ok)
@@ -258,7 +258,7 @@ module _ {k : ℕ} {m lent : List ℕ} {s : Sent} {left : List ℕ} (c : Cleans 
     pub whole-same : Octets m → {T : List ℕ} {v : Verdict} {t : List ℕ} → Judged k m T v t → v ≡ accepted → keptCount t ≡ rows t → take (s .length) left ≡ m
     whole-same o {T} {v} {t} x e z =
         let ok : refuses (judgeVerdict book k m (length T)) ≡ false = rw (x .answers) at (not-refused v e) in
-        let bt : Begins t (items book k m) = rw (x .table-left ∙ accepted-table book k m T ok) (laid-begins (items book k m) T) in
+        let bt : Begins t (items book k m) = rw (x .table-left ∙ accepted-table book k m T ok) (laid-begins (messageType m) k (items book k m) T) in
         let all : keptRows (items book k m) ≡ length (items book k m) = sym (kept-of t (items book k m) bt) ∙ z ∙ count-of t (items book k m) bt in
         is-copy ∙ clean-same book book-sound k m o (rw (amply-ok, all) (eq-eqb (length (items book k m)) (length (items book k m)) refl))
 

@@ -13,6 +13,7 @@ use Prim.Native.Nat.{ℕ, _-_, _≤_, _<_}
 use lib.ListN.{length, take, getD}
 use denote.Ref.{RefT, now}
 use Rattle.rules.specs.Listings.{Book}
+use Rattle.rules.specs.Values.{tableRows, rowSpan, deskSpan}
 use Rattle.rules.specs.Verdicts.{accepted, refuses, first, framingChecks, judgeVerdict, maskVerdict, judgeTable}
 use Rattle.rules.specs.Covered.{covered, masked, maskCopy}
 use Rattle.rules.specs.Sound.{sound}
@@ -20,7 +21,7 @@ use Rattle.promises.specs.Agreeing.{SameOpen, deskPlace, deskOctets, AtD
 use Rattle.verdicts.proofs.Laying.{laid-take, laid-length, laid-in, laid-past, judge-framed}
 use Rattle.promises.proofs.Left.{accepted-copy, mask-framed, enough-copy}
 use Rattle.promises.proofs.Clearing.{masked-length, masked-at}
-use Rattle.promises.proofs.Agreeing.{same-covered, same-verdict, same-table, same-masked, same-copy}
+use Rattle.promises.proofs.Agreeing.{same-is-of, same-covered, same-verdict, same-table, same-masked, same-copy}
 
 -- ---- demand 3 (b): each octet of the copy
 
@@ -79,7 +80,8 @@ module _ (b : Book) (fine : sound b ≡ true) (k : ℕ) (m copy : List ℕ) (ok 
 module _ (b : Book) (fine : sound b ≡ true) (k : ℕ) (copy table : List ℕ) (row : ℕ) where
   module _ (m n : List ℕ) (s : SameOpen b k m n) where
     pub desk-place : deskPlace b k copy table row n ≡ deskPlace b k copy table row m
-    desk-place = rw (s .size, same-copy b fine k m n s copy, same-table b fine k m n s table)
+    unfolding deskSpan rowSpan tableRows
+    desk-place = rw (s .size, same-copy b fine k m n s copy, same-table b fine k m n s table, same-is-of b fine k m n s (judgeTable b k m table))
 
     pub desk-octets : deskOctets b k copy table row n ≡ deskOctets b k copy table row m
     desk-octets = rw (desk-place, same-copy b fine k m n s copy)

@@ -27,34 +27,34 @@ tabled : (k : ℕ) (m left : List ℕ) → asked judging k m ≡ record { verdic
 tabled k m left e =
     judged-table {lent = sevens} {v = accepted} (record { answers = sym (ap (λ (x : Outcome). x .verdict) e); table-left = sym (ap (λ (x : Outcome). x .left) e) }) refl
 
-pub table-d : IsTable book 1 messageD (head 1 1 4 10 (line 0 3 0 12 1 0 []) ++ drop 10 sevens)
+pub table-d : IsTable book 1 messageD (head 1 1 6 12 1 1 (line 0 3 0 12 1 0 []) ++ drop 12 sevens)
 unfolding examples
-table-d = tabled 1 messageD (head 1 1 4 10 (line 0 3 0 12 1 0 []) ++ drop 10 sevens) (example 3)
+table-d = tabled 1 messageD (head 1 1 6 12 1 1 (line 0 3 0 12 1 0 []) ++ drop 12 sevens) (example 3)
 
-pub table-f : IsTable book 1 (headF ++ firstF ++ secondF) (head 2 1 4 16 (line 0 3 0 12 1 0 (line 0 3 0 17 0 2 [])) ++ drop 16 sevens)
+pub table-f : IsTable book 1 (headF ++ firstF ++ secondF) (head 2 1 6 18 1 1 (line 0 3 0 12 1 0 (line 0 3 0 17 0 2 [])) ++ drop 18 sevens)
 unfolding examples
-table-f = tabled 1 (headF ++ firstF ++ secondF) (head 2 1 4 16 (line 0 3 0 12 1 0 (line 0 3 0 17 0 2 [])) ++ drop 16 sevens) (example 6)
+table-f = tabled 1 (headF ++ firstF ++ secondF) (head 2 1 6 18 1 1 (line 0 3 0 12 1 0 (line 0 3 0 17 0 2 [])) ++ drop 18 sevens) (example 6)
 
-pub table-g : IsTable book 1 messageG (head 2 2 4 16 (line 0 93 0 16 5 0 (line 1 73 0 20 1 0 [])) ++ drop 16 sevens)
+pub table-g : IsTable book 1 messageG (head 2 2 6 18 66 1 (line 0 93 0 16 5 0 (line 1 73 0 20 1 0 [])) ++ drop 18 sevens)
 unfolding examples
-table-g = tabled 1 messageG (head 2 2 4 16 (line 0 93 0 16 5 0 (line 1 73 0 20 1 0 [])) ++ drop 16 sevens) (example 8)
+table-g = tabled 1 messageG (head 2 2 6 18 66 1 (line 0 93 0 16 5 0 (line 1 73 0 20 1 0 [])) ++ drop 18 sevens) (example 8)
 
-pub table-k : IsTable book 1 messageK (head 3 2 4 22 (line 0 93 0 16 5 0 (line 1 73 0 20 1 0 (line 0 180 1 25 0 1 []))) ++ drop 22 sevens)
+pub table-k : IsTable book 1 messageK (head 3 2 6 24 66 1 (line 0 93 0 16 5 0 (line 1 73 0 20 1 0 (line 0 180 1 25 0 1 []))) ++ drop 24 sevens)
 unfolding examples
-table-k = tabled 1 messageK (head 3 2 4 22 (line 0 93 0 16 5 0 (line 1 73 0 20 1 0 (line 0 180 1 25 0 1 []))) ++ drop 22 sevens) (example 12)
+table-k = tabled 1 messageK (head 3 2 6 24 66 1 (line 0 93 0 16 5 0 (line 1 73 0 20 1 0 (line 0 180 1 25 0 1 []))) ++ drop 24 sevens) (example 12)
 
 pub none-j : (t : List ℕ) → IsTable book 1 messageJ t → ⊥
 unfolding examples
-none-j = nine-exactly 1 messageJ 23 .0 (ap (λ (x : Outcome). x .verdict .code) (example 11)) .1
+none-j = nine-exactly 1 messageJ 25 .0 (ap (λ (x : Outcome). x .verdict .code) (example 11)) .1
 
 pub cut-j : (t : List ℕ) × IsCut book 1 messageJ t 16
 unfolding examples
-cut-j = nine-at-exactly 1 messageJ 23 16 .0 (ap (λ (x : Outcome). x .verdict) (example 11)) .1
+cut-j = nine-at-exactly 1 messageJ 25 16 .0 (ap (λ (x : Outcome). x .verdict) (example 11)) .1
 
 -- ---- `ZeroBits` holds of G, so that it does come back
 
 abbrev judgedG : List ℕ
-judgedG = head 2 2 4 16 (line 0 93 0 16 5 0 (line 1 73 0 20 1 0 [])) ++ drop 16 sevens
+judgedG = head 2 2 6 18 66 1 (line 0 93 0 16 5 0 (line 1 73 0 20 1 0 [])) ++ drop 18 sevens
 
 octets-g : Octets messageG
 unfolding below
@@ -69,7 +69,7 @@ bits-g = record { flags = refl; spare = refl; elements = each }
     each (suc zero) l = omega arith
     each (suc (suc r)) l = absurd (omega arith)
 
-pub g-comes-back : {v : Verdict} {t : List ℕ} → Judged 1 messageG sevens v t → {lent : List ℕ} {s : Sent} {left : List ℕ} → Builds 1 66 1 2 t messageG lent s left
+pub g-comes-back : {v : Verdict} {t : List ℕ} → Judged 1 messageG sevens v t → {lent : List ℕ} {s : Sent} {left : List ℕ} → Builds 1 2 t messageG lent s left
     → 21 ≤ length lent → (s .verdict ≡ accepted) × (s .length ≡ 21) × (take (s .length) left ≡ messageG)
 unfolding examples messageType teidOf sequenceOf headerLength flagT
 g-comes-back {v} {t} j {lent} {s} {left} c l =

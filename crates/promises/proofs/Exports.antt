@@ -11,6 +11,7 @@ use native.Mathlib.Omega.{arith}
 use borrow.Author.Tests.{lt-ltb, le-ltb}
 use lib.Dec.{ltb}
 use lib.ListN.{length, take, drop, getD}
+use Rattle.rules.specs.Framing.{messageType}
 use Rattle.rules.specs.Sizes.{fiveOctets, answerOctets, used}
 use Rattle.rules.specs.Types.{among}
 use Rattle.rules.specs.Listings.{book}
@@ -24,7 +25,7 @@ use Rattle.rules.specs.declared.Verdict.{Verdict}
 use Rattle.rules.proofs.Book.{book-sound}
 use Rattle.rules.proofs.Numbers.{numbers-length}
 use Rattle.rules.proofs.Header.{Passed, framed}
-use Rattle.tables.proofs.Rowed.{Begins, table-length, more-begins, count-of}
+use Rattle.tables.proofs.Rowed.{more-of, Begins, table-length, more-begins, count-of}
 use Rattle.verdicts.proofs.Laying.{laid-length, laid-past, judge-framed, enough-room}
 use Rattle.verdicts.proofs.Acceptance.{OneOf, judge-codes}
 use Rattle.verdicts.proofs.Accepting.{accepts, accept}
@@ -62,9 +63,9 @@ module _ (k : ℕ) (m t f : List ℕ) (c : ℕ) (t′ f′ : List ℕ) (x : Judg
   pub export-leaves : c ≡ 0 → LeavesOctets book k m t t′
   unfolding judgeOctets laid
   export-leaves zero = record {
-    accepts = rw numbers (accepts book book-sound k m (tableOf es ++ more) es (framing .1 .1) begins (framing .0) (tableRoom t) (judge-zero v (judge-codes book book-sound k m (tableRoom t)) (sym (x .answers) ∙ zero)));
-    size = ap length left ∙ laid-length (octetsOf (tableOf es)) t (omega (arith, room, size));
-    stays = λ i l. ap (λ (xs : List ℕ). getD xs i 0) left ∙ laid-past (octetsOf (tableOf es)) t i (omega (arith, size, rw (numbers, count-of (tableOf es ++ more) es begins) at l));
+    accepts = rw numbers (accepts book book-sound k m (tableOf (messageType m) k es ++ more) es (framing .1 .1) begins (framing .0) (more-of k m es more) (tableRoom t) (judge-zero v (judge-codes book book-sound k m (tableRoom t)) (sym (x .answers) ∙ zero)));
+    size = ap length left ∙ laid-length (octetsOf (tableOf (messageType m) k es)) t (omega (arith, room, size));
+    stays = λ i l. ap (λ (xs : List ℕ). getD xs i 0) left ∙ laid-past (octetsOf (tableOf (messageType m) k es)) t i (omega (arith, size, rw (numbers, count-of (tableOf (messageType m) k es ++ more) es begins) at l));
   }
     where
       ok : refuses v ≡ false
@@ -80,22 +81,22 @@ module _ (k : ℕ) (m t f : List ℕ) (c : ℕ) (t′ f′ : List ℕ) (x : Judg
       items-are = ap itemsIn (framing .1 .1)
 
       more : List ℕ
-      more = numbersIn (drop (length (octetsOf (tableOf es))) t)
+      more = numbersIn (drop (length (octetsOf (tableOf (messageType m) k es))) t)
 
-      begins : Begins (tableOf es ++ more) es
-      begins = more-begins es more
+      begins : Begins (tableOf (messageType m) k es ++ more) es
+      begins = more-begins (messageType m) k es more
 
-      size : length (octetsOf (tableOf es)) ≡ 2 * used (length es)
-      size = octets-length (tableOf es) ∙ ap (λ (n : ℕ). 2 * n) (table-length es)
+      size : length (octetsOf (tableOf (messageType m) k es)) ≡ 2 * used (length es)
+      size = octets-length (tableOf (messageType m) k es) ∙ ap (λ (n : ℕ). 2 * n) (table-length (messageType m) k es)
 
       room : used (length es) ≤ tableRoom t
       room = rw items-are at (enough-room book k m (tableRoom t) ok)
 
-      left : t′ ≡ laid (octetsOf (tableOf es)) t
+      left : t′ ≡ laid (octetsOf (tableOf (messageType m) k es)) t
       left = x .table-left ∙ rw (ok, items-are)
 
-      numbers : numbersIn t′ ≡ tableOf es ++ more
-      numbers = ap numbersIn left ∙ read-numbers (tableOf es) (drop (length (octetsOf (tableOf es))) t)
+      numbers : numbersIn t′ ≡ tableOf (messageType m) k es ++ more
+      numbers = ap numbersIn left ∙ read-numbers (tableOf (messageType m) k es) (drop (length (octetsOf (tableOf (messageType m) k es))) t)
 
   -- and where such a table is read, the code is 0
   pub leaves-export : LeavesOctets book k m t t′ → c ≡ 0

@@ -7,6 +7,7 @@ use native.Mathlib.Omega.{arith}
 use borrow.Author.Tests.{ltb-false}
 use lib.Dec.{ltb}
 use lib.ListN.{length, drop}
+use Rattle.rules.specs.Framing.{messageType}
 use Rattle.rules.specs.Sizes.{used}
 use Rattle.rules.specs.Listings.{Book}
 use Rattle.rules.specs.Table.{tableOf, laid}
@@ -47,7 +48,7 @@ module _ (b : Book) (k : ℕ) (m : List ℕ) where
   stays : (t : List ℕ) (r : Bool) → refuses (judgeVerdict b k m (length t)) ≡ r → drop (used (length (items b k m))) (judgeTable b k m t) ≡ drop (used (length (items b k m))) t
   stays t true e = ap (drop (used (length (items b k m)))) (refused-table t e)
   stays t false e =
-      rw (accepted-table b k m t e, ← table-length (items b k m)) (laid-drop (tableOf (items b k m)) t)
+      rw (accepted-table b k m t e, ← table-length (messageType m) k (items b k m)) (laid-drop (tableOf (messageType m) k (items b k m)) t)
 
   pub table-stays : (t : List ℕ) → drop (used (length (items b k m))) (judgeTable b k m t) ≡ drop (used (length (items b k m))) t
   table-stays t = stays t (refuses (judgeVerdict b k m (length t))) refl
@@ -55,7 +56,7 @@ module _ (b : Book) (k : ℕ) (m : List ℕ) where
   length-case : (t : List ℕ) (r : Bool) → refuses (judgeVerdict b k m (length t)) ≡ r → length (judgeTable b k m t) ≡ length t
   length-case t true e = ap length (refused-table t e)
   length-case t false e =
-      rw (accepted-table b k m t e) (laid-length (tableOf (items b k m)) t (omega (arith, table-length (items b k m), enough-room b k m (length t) e)))
+      rw (accepted-table b k m t e) (laid-length (tableOf (messageType m) k (items b k m)) t (omega (arith, table-length (messageType m) k (items b k m), enough-room b k m (length t) e)))
 
   pub table-length-stays : (t : List ℕ) → length (judgeTable b k m t) ≡ length t
   table-length-stays t = length-case t (refuses (judgeVerdict b k m (length t))) refl

@@ -1,8 +1,8 @@
 -- Every statement to the owner, demand by demand, of the judge, the masker, the cleaner, the builder, the lookups and the exports by the listings of rule 3.2. Each is proved in the file
 -- that it cites, there, or in the laws below it, of any listings that pass the test `sound`; these do (`book-sound`). Assumes nothing.
 use mathlib.Core.Path.{_≡_, sym, ap, _∙_}
-use mathlib.Core.Logic.{_⊎_, _↔_, _≢_}
-use mathlib.Core.Bool.{Bool, true, false, cond}
+use mathlib.Core.Logic.{_⊎_, inl, inr, _↔_, _≢_}
+use mathlib.Core.Bool.{Bool, true, false, cond, _||_}
 use mathlib.Core.List.{List}
 use Prim.Native.Nat.{ℕ, suc, _+_, _-_, _*_, _≤_, _<_}
 use native.Mathlib.Omega.{arith}
@@ -18,11 +18,12 @@ use Rattle.rules.specs.Table.{tableOf, laid}
 use Rattle.rules.specs.Verdicts.{accepted, refused, refusedAt, invalidLength, mandatoryMissing, refuses, first, framingChecks, items, judgeVerdict, maskVerdict, judgeTable, judgeNumbers, maskNumbers}
 use Rattle.rules.specs.Covered.{covered, masked, maskCopy}
 use Rattle.rules.specs.Cleaned.{cleaned, cleanChecks, cleanVerdict, cleanLength, cleanNumbers}
-use Rattle.rules.specs.Built.{teidOf, sequenceOf, ZeroBits, built, buildChecks, buildVerdict, buildLength, buildNumbers}
-use Rattle.rules.specs.Values.{rowType, rowInstance, rowParent, rowPlace, rowStanding, Stands}
+use Rattle.rules.specs.Built.{teidOf, sequenceOf, ZeroBits, builtBy, buildChecks, buildVerdict, buildLength, buildNumbers}
+use Rattle.rules.specs.Values.{rowType, rowInstance, rowParent, rowPlace, rowStanding, tableType, tableKind, isCut, disagrees, isOf, nowhere, Stands}
 use Rattle.rules.specs.Octets.{numbersIn, five, six, tableRoom}
 use Rattle.rules.specs.Answers.{Judged, Masked, Cleans, Builds, Plain, PlainFound, Desk, DeskFound, JudgedOctets, MaskedOctets, CleanedOctets, BuiltOctets}
 use Rattle.rules.specs.declared.Verdict.{Verdict}
+use Rattle.rules.specs.declared.Span.{Span}
 use Rattle.rules.specs.declared.Sent.{Sent}
 use Rattle.rules.proofs.Book.{book-sound}
 use Rattle.rules.proofs.Checks.{OwnCase}
@@ -31,7 +32,7 @@ use Rattle.rules.proofs.Rows.{Octets, header-least}
 use Rattle.tables.specs.Words.{rows, keptCount, firstRow, numbersUsed, keptAmong, rowStart, rowEnd, KeptGroup, IsLevel, Inside, Faithful}
 use Rattle.tables.specs.Levels.{levelOf}
 use Rattle.tables.specs.Standings.{itsListing, Listed, Again, Below}
-use Rattle.tables.specs.IsTable.{IsTable}
+use Rattle.tables.specs.IsTable.{IsOf, IsTable}
 use Rattle.tables.specs.Tiles.{Tiles}
 use Rattle.verdicts.specs.Missing.{ShortRow, Lacks, NamesShort, NamesLack}
 use Rattle.verdicts.specs.Accepts.{Leaves}
@@ -58,8 +59,8 @@ use Rattle.promises.specs.Agreeing.{SameOpen, AtDesk}
 use Rattle.promises.specs.Exports.{LeavesOctets}
 use Rattle.promises.specs.Cleaning.{CleanRows}
 use Rattle.promises.specs.Building.{SameRows, HasHead, NumberAlone}
-use Rattle.promises.proofs.Built.{build-alone, build-left-alone, is-built, build-past-stays, built-head, built-judged, built-zero, rebuilt-same}
-use Rattle.promises.specs.Lookups.{valueOf, TopRow, FirstTopRow}
+use Rattle.promises.proofs.Built.{short-table, long-table, build-alone, build-left-alone, is-built, build-past-stays, built-head, built-judged, built-zero, rebuilt-same}
+use Rattle.promises.specs.Lookups.{valueOf, TopRow, FirstTopRow, SomethingElse}
 use Rattle.promises.proofs.Left.{refused-table, refused-copy, table-stays}
 use Rattle.promises.proofs.Covering.{header-open, element-header-open}
 use Rattle.promises.proofs.Agreeing.{same-verdict, same-table, same-mask-verdict, same-copy}
@@ -67,7 +68,7 @@ use Rattle.promises.proofs.Copies.{copy-octet, copy-past, copy-verdict,
 use Rattle.promises.proofs.Exports.{code-of, export-leaves, leaves-export, export-refused, five-read, five-short, answer-read, answer-stays, answer-short}
 use Rattle.promises.proofs.Contracts.{two-judged, two-masked, two-judged-octets, two-masked-octets, copied, copied-octets}
 use Rattle.promises.proofs.Cleaned.{left-alone, refused-as-judged, accepted-exactly, thirteen-by-room, made, is-copy, past-stays, header-kept, no-longer, clean-judged-as, clean-once, whole-same, commutes}
-use Rattle.promises.proofs.Lookups.{desk-span, desk-found, plain-span, plain-found}
+use Rattle.promises.proofs.Lookups.{is-of, other-header, other-kind, no-type, other-type, plain-nowhere, desk-nowhere, desk-span, desk-found, plain-span, plain-found}
 
 module _ (k : ℕ) (m : List ℕ) where
   -- ======== Demand 1: whatever is asked gets an answer; a refusal has a number of rule 6.2, its place and its turn; and what is left is fixed.
@@ -122,12 +123,12 @@ module _ (k : ℕ) (m : List ℕ) where
   -- a level has no kept row of a pair that it must have, where nothing else went wrong before.
 
   -- on acceptance the table is the numbers of the elements taken, over the start of what was lent
-  pub acceptance-writes : (t : List ℕ) → refuses (judgeVerdict book k m (length t)) ≡ false → judgeTable book k m t ≡ laid (tableOf (items book k m)) t
+  pub acceptance-writes : (t : List ℕ) → refuses (judgeVerdict book k m (length t)) ≡ false → judgeTable book k m t ≡ laid (tableOf (messageType m) k (items book k m)) t
   acceptance-writes = accepted-table book k m
 
   -- `IsTable` says what a table of the message is without the walk. Where 1 to 8 pass, it holds of t exactly where the message is whole and the numbers of
-  -- its elements stand at the start of t; and of one table only
-  pub table-exactly : Passed book k m → (t : List ℕ) → IsTable book k m t ↔ ((es : List Item) × (taken book k m ≡ whole es) × Begins t es)
+  -- its elements stand at the start of t, which says that it is of this kind and of the message's type; and of one table only
+  pub table-exactly : Passed book k m → (t : List ℕ) → IsTable book k m t ↔ (IsOf k m t × ((es : List Item) × (taken book k m ≡ whole es) × Begins t es))
   table-exactly = table-iff book book-sound k m
 
   pub table-unique : (t u : List ℕ) → IsTable book k m t → IsTable book k m u → (rows t ≡ rows u) × ((i : ℕ) → i < used (rows t) → getD t i 0 ≡ getD u i 0)
@@ -430,13 +431,19 @@ module _ {k : ℕ} {m lent : List ℕ} {s : Sent} {left : List ℕ} (c : Cleans 
 
 -- ---- the builder
 
-module _ {k typ teid sequence : ℕ} {t values lent : List ℕ} {s : Sent} {left : List ℕ} (c : Builds k typ teid sequence t values lent s left) where
-  -- each of 1, 7, 14, 15 and 16 is given exactly where its check applies and none before it does; nothing else is
-  pub built-in-its-case : (j : ℕ) → j < length buildNumbers → (s .verdict .code ≡ getD buildNumbers j 0) ↔ OwnCase (buildChecks book k typ teid sequence t values (length lent)) j
-  built-in-its-case j l = rw (c .verdict-is) (build-case book k typ teid sequence t values (length lent) j l)
+module _ {teid sequence : ℕ} {t values lent : List ℕ} {s : Sent} {left : List ℕ} (c : Builds teid sequence t values lent s left) where
+  -- a table too short for a header is 14 before all else
+  pub built-short-table : length t < headerNumbers → s .verdict ≡ refused 14 0
+  built-short-table l = c .verdict-is ∙ short-table teid sequence t values (length lent) l
+
+  -- of any other each of 1, 7, 14, 15 and 16 is given exactly where its check applies and none before it does; nothing else is
+  pub built-in-its-case : headerNumbers ≤ length t → (j : ℕ) → j < length buildNumbers
+      → (s .verdict .code ≡ getD buildNumbers j 0) ↔ OwnCase (buildChecks book (tableKind t) (tableType t) teid sequence t values (length lent)) j
+  built-in-its-case h j l =
+      rw (c .verdict-is, long-table teid sequence t values (length lent) h) (build-case book (tableKind t) (tableType t) teid sequence t values (length lent) j l)
 
   pub built-one-of : OneOf buildNumbers (s .verdict)
-  built-one-of = rw (c .verdict-is) (build-codes book k typ teid sequence t values (length lent))
+  built-one-of = rw (c .verdict-is) (build-codes book teid sequence t values (length lent))
 
   -- and names nothing: cause, place, type and instance are 0
   pub built-alone : NumberAlone (s .verdict)
@@ -448,29 +455,29 @@ module _ {k typ teid sequence : ℕ} {t values lent : List ℕ} {s : Sent} {left
 
   module _ (a : s .verdict ≡ accepted) where
     -- the message stands at the start of the room, with the length that is answered; what is past it stays
-    pub built-holds : take (s .length) left ≡ built book k typ teid sequence t values
+    pub built-holds : take (s .length) left ≡ builtBy book teid sequence t values
     built-holds = is-built c a
 
     pub built-stays : drop (s .length) left ≡ drop (s .length) lent
     built-stays = build-past-stays c a
 
-    -- the judge accepts it on that kind with every row kept, and its rows are those given: parents, types, instances, and the values that are no group's
-    pub built-rows : {lent₂ : List ℕ} {w : Verdict} {u : List ℕ} → Judged k (take (s .length) left) lent₂ w u → used (rows t) ≤ length lent₂
+    -- the judge accepts it on the table's kind with every row kept, and its rows are those given: parents, types, instances, and the values that are no group's
+    pub built-rows : {lent₂ : List ℕ} {w : Verdict} {u : List ℕ} → Judged (tableKind t) (take (s .length) left) lent₂ w u → used (rows t) ≤ length lent₂
         → (w ≡ accepted) × SameRows t values (take (s .length) left) u
     built-rows = built-judged c a
 
-    -- it has the type, the TEID and the sequence number that were given; and no bit is set that nothing reads, in its header or in an element's
-    pub built-header : HasHead typ teid sequence (take (s .length) left)
+    -- it has the table's type, the TEID and the sequence number that were given; and no bit is set that nothing reads, in its header or in an element's
+    pub built-header : HasHead (tableType t) teid sequence (take (s .length) left)
     built-header = built-head c a
 
-    pub built-bits : {lent₂ : List ℕ} {w : Verdict} {u : List ℕ} → Judged k (take (s .length) left) lent₂ w u → used (rows t) ≤ length lent₂
+    pub built-bits : {lent₂ : List ℕ} {w : Verdict} {u : List ℕ} → Judged (tableKind t) (take (s .length) left) lent₂ w u → used (rows t) ≤ length lent₂
         → ZeroBits (take (s .length) left) u
     built-bits = built-zero c a
 
 -- a message that lost no row and has no bit set that nothing reads is what the builder makes of the judge's table of it, its own octets lent as
 -- the values and its header's numbers given again, where there is room
 pub comes-back : {k : ℕ} {m lent₁ : List ℕ} {v : Verdict} {t : List ℕ} → Judged k m lent₁ v t → v ≡ accepted → keptCount t ≡ rows t → Octets m → ZeroBits m t
-    → {lent : List ℕ} {s : Sent} {left : List ℕ} → Builds k (messageType m) (teidOf m) (sequenceOf m) t m lent s left → length m ≤ length lent
+    → {lent : List ℕ} {s : Sent} {left : List ℕ} → Builds (teidOf m) (sequenceOf m) t m lent s left → length m ≤ length lent
     → (s .verdict ≡ accepted) × (s .length ≡ length m) × (take (s .length) left ≡ m)
 comes-back = rebuilt-same
 
@@ -536,30 +543,30 @@ module _ {k : ℕ} {m lent lentAnswer : List ℕ} {code : ℕ} {left leftAnswer 
   pub clean-octets-short : length lentAnswer < answerOctets → leftAnswer ≡ lentAnswer
   clean-octets-short = answer-short lentAnswer leftAnswer (cleanVerdict book k m (length lent)) (cleanLength book k m (length lent)) (c .answer-left)
 
-module _ {k typ teid sequence : ℕ} {t values lent lentAnswer : List ℕ} {code : ℕ} {left leftAnswer : List ℕ} (c : BuiltOctets k typ teid sequence t values lent lentAnswer code left leftAnswer) where
+module _ {teid sequence : ℕ} {t values lent lentAnswer : List ℕ} {code : ℕ} {left leftAnswer : List ℕ} (c : BuiltOctets teid sequence t values lent lentAnswer code left leftAnswer) where
   -- the builder's export leaves the message that the builder leaves, from the numbers that the table's octets are read as
-  pub build-octets-built : (s : Sent) (room : List ℕ) → Builds k typ teid sequence (numbersIn t) values lent s room → (code ≡ s .verdict .code) × (left ≡ room)
+  pub build-octets-built : (s : Sent) (room : List ℕ) → Builds teid sequence (numbersIn t) values lent s room → (code ≡ s .verdict .code) × (left ≡ room)
   build-octets-built s room x = (c .answers ∙ sym (ap (λ (w : Verdict). w .code) (x .verdict-is)), c .room-left ∙ sym (x .room-left))
 
   -- and its six numbers, if there is room for them; else nothing is written
-  pub build-octets-six : (s : Sent) (room : List ℕ) → Builds k typ teid sequence (numbersIn t) values lent s room → answerOctets ≤ length lentAnswer
+  pub build-octets-six : (s : Sent) (room : List ℕ) → Builds teid sequence (numbersIn t) values lent s room → answerOctets ≤ length lentAnswer
       → take 6 (numbersIn leftAnswer) ≡ six (s .verdict) (s .length)
   build-octets-six s room x l =
       rw (x .verdict-is, x .length-is)
-      (answer-read lentAnswer leftAnswer (buildVerdict book k typ teid sequence (numbersIn t) values (length lent)) (buildLength book k typ teid sequence (numbersIn t) values (length lent)) (c .answer-left) l)
+      (answer-read lentAnswer leftAnswer (buildVerdict book teid sequence (numbersIn t) values (length lent)) (buildLength book teid sequence (numbersIn t) values (length lent)) (c .answer-left) l)
 
   pub build-octets-one-of : (code ≡ 0) ⊎ (among code buildNumbers ≡ true)
   build-octets-one-of =
-      rw (c .answers) (code-of buildNumbers (buildVerdict book k typ teid sequence (numbersIn t) values (length lent)) (build-codes book k typ teid sequence (numbersIn t) values (length lent)))
+      rw (c .answers) (code-of buildNumbers (buildVerdict book teid sequence (numbersIn t) values (length lent)) (build-codes book teid sequence (numbersIn t) values (length lent)))
 
   -- octets past those of the six numbers stay, and so do all of a buffer that is too short
   pub build-octets-stay : (i : ℕ) → answerOctets ≤ i → getD leftAnswer i 0 ≡ getD lentAnswer i 0
   build-octets-stay =
-      answer-stays lentAnswer leftAnswer (buildVerdict book k typ teid sequence (numbersIn t) values (length lent)) (buildLength book k typ teid sequence (numbersIn t) values (length lent)) (c .answer-left)
+      answer-stays lentAnswer leftAnswer (buildVerdict book teid sequence (numbersIn t) values (length lent)) (buildLength book teid sequence (numbersIn t) values (length lent)) (c .answer-left)
 
   pub build-octets-short : length lentAnswer < answerOctets → leftAnswer ≡ lentAnswer
   build-octets-short =
-      answer-short lentAnswer leftAnswer (buildVerdict book k typ teid sequence (numbersIn t) values (length lent)) (buildLength book k typ teid sequence (numbersIn t) values (length lent)) (c .answer-left)
+      answer-short lentAnswer leftAnswer (buildVerdict book teid sequence (numbersIn t) values (length lent)) (buildLength book teid sequence (numbersIn t) values (length lent)) (c .answer-left)
 
 -- ---- two messages of one length that differ in covered octets alone, and equal buffers
 
@@ -581,19 +588,48 @@ module _ {k : ℕ} {m n : List ℕ} (s : SameOpen book k m n) where
 module _ {k : ℕ} {lent : List ℕ} {v : Verdict} {left : List ℕ} (message : RefT (List ℕ)) (c : Judged k (now message) lent v left) (a : v ≡ accepted) where
   -- the desk's, with a copy of the message's length and either right: it finds each row below the count and no other, and answers where its value stands
   module _ (copy : RefT (List ℕ)) (same : length (now copy) ≡ length (now message)) (right : Bool) (r : ℕ) where
-    pub desk-finds : (answer : Bool) → DeskFound r right (now message) (now copy) left answer → (answer ≡ true) ↔ (r < rows left)
+    pub desk-finds : (answer : Bool) → DeskFound k r right (now message) (now copy) left answer → (answer ≡ true) ↔ (r < rows left)
     desk-finds answer e = rw e (desk-found book k (now message) left (judged-table c a) (length (now copy)) same r)
 
-    pub desk-answers : r < rows left → (part : RefT (List ℕ)) → Desk r right message copy left part → Stands (cond right message copy) (valueOf left r) part
+    pub desk-answers : r < rows left → (part : RefT (List ℕ)) → Desk k r right message copy left part → Stands (cond right message copy) (valueOf left r) part
     desk-answers l part d = rw (desk-span book k (now message) left (judged-table c a) (length (now copy)) same r l) at d
 
   -- the plain one: it finds a pair exactly where a kept row with parent 0 has it, and answers where the first such row's value stands
-  pub plain-finds : (y i : ℕ) (answer : Bool) → PlainFound y i (now message) left answer → (answer ≡ true) ↔ ((r : ℕ) × TopRow left y i r)
+  pub plain-finds : (y i : ℕ) (answer : Bool) → PlainFound k y i (now message) left answer → (answer ≡ true) ↔ ((r : ℕ) × TopRow left y i r)
   plain-finds y i answer e = rw e (plain-found book k (now message) left (judged-table c a) y i)
 
-  pub plain-answers : (y i r : ℕ) → FirstTopRow left y i r → (part : RefT (List ℕ)) → Plain y i message left part → Stands message (valueOf left r) part
+  pub plain-answers : (y i r : ℕ) → FirstTopRow left y i r → (part : RefT (List ℕ)) → Plain k y i message left part → Stands message (valueOf left r) part
   plain-answers y i r f part d = rw (plain-span book k (now message) left (judged-table c a) y i r f) at d
+
+  -- the table agrees with itself, and names the message's type and the kind
+  pub judged-agrees : (isOf k (now message) left ≡ true) × (tableType left ≡ messageType (now message)) × (tableKind left ≡ k)
+  judged-agrees = let t = judged-table c a in (is-of book k (now message) left t, t .right .of .of-type, t .right .of .of-kind)
 
   -- and such a part lies in the message
   pub found-in-message : (r : ℕ) → r < rows left → rowEnd left r ≤ length (now message)
   found-in-message = row-in-message k (now message) left (judged-table c a)
+
+-- ---- the lookups, on a table of something else: its header disagrees with itself, or names another kind or another type than the message's, or the
+-- message has none. Neither finds anything, and the part answered is the empty one at the start.
+
+not-of : (k : ℕ) (m t : List ℕ) → SomethingElse k m t → isOf k m t ≡ false
+not-of k m t x = go (x .is)
+  where
+    go : (isCut t || disagrees t ≡ true) ⊎ ((tableKind t ≢ k) ⊎ ((tableType t ≢ messageType m) ⊎ (length m ≤ 1))) → isOf k m t ≡ false
+    go (inl e) = other-header k m t e
+    go (inr (inl n)) = other-kind k m t n
+    go (inr (inr (inl n))) = other-type k m t n
+    go (inr (inr (inr l))) = no-type k m t l
+
+module _ (k : ℕ) (message : RefT (List ℕ)) (t : List ℕ) (x : SomethingElse k (now message) t) where
+  pub plain-other : (y i : ℕ) (answer : Bool) → PlainFound k y i (now message) t answer → answer ≡ false
+  plain-other y i answer e = e ∙ ap (λ (s : Span). s .there) (plain-nowhere k (now message) t (not-of k (now message) t x) y i)
+
+  pub plain-other-part : (y i : ℕ) (part : RefT (List ℕ)) → Plain k y i message t part → Stands message nowhere part
+  plain-other-part y i part d = rw (plain-nowhere k (now message) t (not-of k (now message) t x) y i) at d
+
+  pub desk-other : (r : ℕ) (right : Bool) (copy : List ℕ) (answer : Bool) → DeskFound k r right (now message) copy t answer → answer ≡ false
+  desk-other r right copy answer e = e ∙ ap (λ (s : Span). s .there) (desk-nowhere k (now message) t (not-of k (now message) t x) r (length copy))
+
+  pub desk-other-part : (r : ℕ) (right : Bool) (copy part : RefT (List ℕ)) → Desk k r right message copy t part → Stands (cond right message copy) nowhere part
+  desk-other-part r right copy part d = rw (desk-nowhere k (now message) t (not-of k (now message) t x) r (length (now copy))) at d

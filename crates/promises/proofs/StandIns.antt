@@ -14,7 +14,7 @@ use Rattle.rules.specs.Standing.{isShort, markAfter, standing, marked, entered,
 use Rattle.rules.specs.Taking.{run, walk, itemsOf, bodyLevel, taken}
 use Rattle.rules.specs.Table.{header, tableOf, laid}
 use Rattle.rules.specs.Verdicts.{accepted, refusedAt, check, refuses, first, shortChecks, hasKept, levelChecks, groupChecks, lackChecks, headerChecks, framingChecks, judgeChecks, judgeVerdict, items}
-use Rattle.rules.specs.Values.{tableRows, rowSpan, deskSpan, isPlain, seekPlain, plainSpan}
+use Rattle.rules.specs.Values.{standingKept, isOf, tableRows, rowSpan, deskSpan, isPlain, seekPlain, plainSpan}
 use Rattle.rules.specs.Examples.{judging, masking, Outcome, examples, sevens, messageD, messageE, messageG, messageM, head, line}
 use Rattle.rules.specs.declared.Verdict.{Verdict}
 use Rattle.verdicts.proofs.Laying.{accepted-table}
@@ -162,16 +162,16 @@ lentG : RefT (List ℕ)
 lentG = record { ptr = (0, 0); name = 0; now = messageG }
 
 tableG : List ℕ
-tableG = head 2 2 4 16 (line 0 93 0 16 5 0 (line 1 73 0 20 1 0 []))
+tableG = head 2 2 6 18 66 1 (line 0 93 0 16 5 0 (line 1 73 0 20 1 0 []))
 
-pub plain-empty : (f : Lookup) → ((y i : ℕ) (m : RefT (List ℕ)) (t : List ℕ) → GivenPair y i m t → now (f y i m t) ≡ []) → IsPlain f → ⊥
-unfolding lentG tableG tableRows rowSpan isPlain seekPlain plainSpan below
+pub plain-empty : (f : Lookup) → ((k y i : ℕ) (m : RefT (List ℕ)) (t : List ℕ) → GivenPair k y i m t → now (f k y i m t) ≡ []) → IsPlain f → ⊥
+unfolding lentG tableG standingKept isOf tableRows rowSpan isPlain seekPlain plainSpan below
 plain-empty f e j =
-    let g : GivenPair 93 0 lentG tableG = record { typ = refl; inst = refl; octets = refl; numbers = refl } in
-    omega (arith, ap length (sym (e 93 0 lentG tableG g) ∙ j 93 0 lentG tableG g .octets))
+    let g : GivenPair 1 93 0 lentG tableG = record { kind = refl; typ = refl; inst = refl; octets = refl; numbers = refl } in
+    omega (arith, ap length (sym (e 1 93 0 lentG tableG g) ∙ j 1 93 0 lentG tableG g .octets))
 
-pub desk-empty : (f : DeskLookup) → ((r : ℕ) (right : Bool) (m c : RefT (List ℕ)) (t : List ℕ) → GivenRow r m c t → now (f r right m c t) ≡ []) → IsDesk f → ⊥
-unfolding lentG tableG tableRows rowSpan deskSpan below
+pub desk-empty : (f : DeskLookup) → ((k r : ℕ) (right : Bool) (m c : RefT (List ℕ)) (t : List ℕ) → GivenRow k r m c t → now (f k r right m c t) ≡ []) → IsDesk f → ⊥
+unfolding lentG tableG standingKept isOf tableRows rowSpan deskSpan below
 desk-empty f e j =
-    let g : GivenRow 1 lentG lentG tableG = record { row = refl; octets = refl; copied = refl; numbers = refl } in
-    omega (arith, ap length (sym (e 1 true lentG lentG tableG g) ∙ j 1 true lentG lentG tableG g .octets))
+    let g : GivenRow 1 1 lentG lentG tableG = record { kind = refl; row = refl; octets = refl; copied = refl; numbers = refl } in
+    omega (arith, ap length (sym (e 1 1 true lentG lentG tableG g) ∙ j 1 1 true lentG lentG tableG g .octets))

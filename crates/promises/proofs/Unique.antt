@@ -32,9 +32,9 @@ masked-unique k m c r r′ l l′ x y = (both (x .answers) (y .answers), both (x
 pub cleaned-unique : (k : ℕ) (m c : List ℕ) (r r′ : Sent) (l l′ : List ℕ) → Cleans k m c r l → Cleans k m c r′ l′ → (r .verdict ≡ r′ .verdict) × (r .length ≡ r′ .length) × (l ≡ l′)
 cleaned-unique k m c r r′ l l′ x y = (both (x .verdict-is) (y .verdict-is), both (x .length-is) (y .length-is), both (x .out-left) (y .out-left))
 
-pub builds-unique : (k typ teid sequence : ℕ) (t values room : List ℕ) (r r′ : Sent) (l l′ : List ℕ) → Builds k typ teid sequence t values room r l → Builds k typ teid sequence t values room r′ l′
+pub builds-unique : (teid sequence : ℕ) (t values room : List ℕ) (r r′ : Sent) (l l′ : List ℕ) → Builds teid sequence t values room r l → Builds teid sequence t values room r′ l′
     → (r .verdict ≡ r′ .verdict) × (r .length ≡ r′ .length) × (l ≡ l′)
-builds-unique k typ teid sequence t values room r r′ l l′ x y = (both (x .verdict-is) (y .verdict-is), both (x .length-is) (y .length-is), both (x .room-left) (y .room-left))
+builds-unique teid sequence t values room r r′ l l′ x y = (both (x .verdict-is) (y .verdict-is), both (x .length-is) (y .length-is), both (x .room-left) (y .room-left))
 
 -- equal octets, and equal places: the block and the offset in it
 pub record SamePart (r r′ : RefT (List ℕ)) : Type 0 where
@@ -45,17 +45,17 @@ pub record SamePart (r r′ : RefT (List ℕ)) : Type 0 where
 stands-unique : (buffer : RefT (List ℕ)) (s : Span) (r r′ : RefT (List ℕ)) → Stands buffer s r → Stands buffer s r′ → SamePart r r′
 stands-unique buffer s r r′ x y = record { octets = both (x .octets) (y .octets); block = both (x .block) (y .block); place = both (x .place) (y .place) }
 
-pub plain-unique : (t i : ℕ) (m : RefT (List ℕ)) (table : List ℕ) (r r′ : RefT (List ℕ)) → Plain t i m table r → Plain t i m table r′ → SamePart r r′
-plain-unique t i m table r r′ x y = stands-unique m _ r r′ x y
+pub plain-unique : (k t i : ℕ) (m : RefT (List ℕ)) (table : List ℕ) (r r′ : RefT (List ℕ)) → Plain k t i m table r → Plain k t i m table r′ → SamePart r r′
+plain-unique k t i m table r r′ x y = stands-unique m _ r r′ x y
 
-pub desk-unique : (row : ℕ) (right : Bool) (m c : RefT (List ℕ)) (table : List ℕ) (r r′ : RefT (List ℕ)) → Desk row right m c table r → Desk row right m c table r′ → SamePart r r′
-desk-unique row right m c table r r′ x y = stands-unique _ _ r r′ x y
+pub desk-unique : (k row : ℕ) (right : Bool) (m c : RefT (List ℕ)) (table : List ℕ) (r r′ : RefT (List ℕ)) → Desk k row right m c table r → Desk k row right m c table r′ → SamePart r r′
+desk-unique k row right m c table r r′ x y = stands-unique _ _ r r′ x y
 
-pub plain-found-unique : (t i : ℕ) (m table : List ℕ) (r r′ : Bool) → PlainFound t i m table r → PlainFound t i m table r′ → r ≡ r′
-plain-found-unique t i m table r r′ x y = both x y
+pub plain-found-unique : (k t i : ℕ) (m table : List ℕ) (r r′ : Bool) → PlainFound k t i m table r → PlainFound k t i m table r′ → r ≡ r′
+plain-found-unique k t i m table r r′ x y = both x y
 
-pub desk-found-unique : (row : ℕ) (right : Bool) (m c table : List ℕ) (r r′ : Bool) → DeskFound row right m c table r → DeskFound row right m c table r′ → r ≡ r′
-desk-found-unique row right m c table r r′ x y = both x y
+pub desk-found-unique : (k row : ℕ) (right : Bool) (m c table : List ℕ) (r r′ : Bool) → DeskFound k row right m c table r → DeskFound k row right m c table r′ → r ≡ r′
+desk-found-unique k row right m c table r r′ x y = both x y
 
 pub judged-octets-unique : (k : ℕ) (m t five : List ℕ) (r r′ : ℕ) (l l′ f f′ : List ℕ) → JudgedOctets k m t five r l f → JudgedOctets k m t five r′ l′ f′
     → (r ≡ r′) × (l ≡ l′) × (f ≡ f′)
@@ -69,9 +69,9 @@ pub cleaned-octets-unique : (k : ℕ) (m c answer : List ℕ) (r r′ : ℕ) (l 
     → (r ≡ r′) × (l ≡ l′) × (f ≡ f′)
 cleaned-octets-unique k m c answer r r′ l l′ f f′ x y = (both (x .answers) (y .answers), both (x .clean-left) (y .clean-left), both (x .answer-left) (y .answer-left))
 
-pub built-octets-unique : (k typ teid sequence : ℕ) (t values room answer : List ℕ) (r r′ : ℕ) (l l′ f f′ : List ℕ) → BuiltOctets k typ teid sequence t values room answer r l f
-    → BuiltOctets k typ teid sequence t values room answer r′ l′ f′ → (r ≡ r′) × (l ≡ l′) × (f ≡ f′)
-built-octets-unique k typ teid sequence t values room answer r r′ l l′ f f′ x y =
+pub built-octets-unique : (teid sequence : ℕ) (t values room answer : List ℕ) (r r′ : ℕ) (l l′ f f′ : List ℕ) → BuiltOctets teid sequence t values room answer r l f
+    → BuiltOctets teid sequence t values room answer r′ l′ f′ → (r ≡ r′) × (l ≡ l′) × (f ≡ f′)
+built-octets-unique teid sequence t values room answer r r′ l l′ f f′ x y =
     (both (x .answers) (y .answers), both (x .room-left) (y .room-left), both (x .answer-left) (y .answer-left))
 
 pub written-unique : (input out : List ℕ) (r r′ : ℕ) (o o′ : List ℕ) → Written input out r o → Written input out r′ o′ → (r ≡ r′) × (o ≡ o′)

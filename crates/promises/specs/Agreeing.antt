@@ -21,7 +21,7 @@ pub record SameOpen (b : Book) (k : ℕ) (m n : List ℕ) : Type 0 where
 module _ (b : Book) (k : ℕ) (copy table : List ℕ) (row : ℕ) where
   -- where the desk's lookup finds the row's value, with the copy and the table that the masker and the judge leave of m in these buffers
   abbrev pub deskPlace : List ℕ → Span
-  deskPlace m = deskSpan row (length m) (length (maskCopy b k m copy)) (judgeTable b k m table)
+  deskPlace m = deskSpan k row m (length (maskCopy b k m copy)) (judgeTable b k m table)
 
   -- and the octets that it answers without the right
   abbrev pub deskOctets : List ℕ → List ℕ
@@ -30,4 +30,4 @@ module _ (b : Book) (k : ℕ) (copy table : List ℕ) (row : ℕ) where
   -- the same in the words of the lookup's contract
   pub record AtDesk (message copied part : RefT (List ℕ)) : Type 0 where
     pub copied-is : now copied ≡ maskCopy b k (now message) copy
-    pub answered : Desk row false message copied (judgeTable b k (now message) table) part
+    pub answered : Desk k row false message copied (judgeTable b k (now message) table) part

@@ -83,13 +83,11 @@ abbrev pub outerCleaned : ℕ → List ℕ → List ℕ
 outerCleaned k m =
     written (octet m 0) (octet m 1) (take (headerLength m - 4) (drop 4 m)) (emitted 0 (pieces m (map takenOuter (items book k m))))
 
--- from kind, type, TEID, sequence number, table, values and room, what is answered and what is left
+-- from TEID, sequence number, table, values and room, what is answered and what is left
 abbrev pub Builder : Type 0
-Builder = ℕ → ℕ → ℕ → ℕ → List ℕ → List ℕ → List ℕ → Writing
+Builder = ℕ → ℕ → List ℕ → List ℕ → List ℕ → Writing
 
-pub record GivenTable (k typ teid sequence : ℕ) (t values room : List ℕ) : Type 0 where
-  pub kind : ltb k kindBound ≡ true
-  pub type-number : ltb typ kindBound ≡ true
+pub record GivenTable (teid sequence : ℕ) (t values room : List ℕ) : Type 0 where
   pub teid-number : ltb teid kindBound ≡ true
   pub sequence-number : ltb sequence kindBound ≡ true
   pub numbers : below numberBound t ≡ true
@@ -98,8 +96,8 @@ pub record GivenTable (k typ teid sequence : ℕ) (t values room : List ℕ) : T
 
 abbrev pub IsBuilder : Builder → Type 0
 IsBuilder f =
-    (k typ teid sequence : ℕ) (t values room : List ℕ) → GivenTable k typ teid sequence t values room
-    → Builds k typ teid sequence t values room (f k typ teid sequence t values room .sent) (f k typ teid sequence t values room .left)
+    (teid sequence : ℕ) (t values room : List ℕ) → GivenTable teid sequence t values room
+    → Builds teid sequence t values room (f teid sequence t values room .sent) (f teid sequence t values room .left)
 
 -- the message of the rows of the message level alone: a group has nothing inside
 unfoldable pub outerPieces : List Piece → List Piece
@@ -110,31 +108,33 @@ abbrev pub outerBuilt : ℕ → ℕ → ℕ → ℕ → List ℕ → List ℕ �
 outerBuilt k typ teid sequence t values =
     written (firstOf (hasTeid book k typ teid sequence t values)) typ (restGiven book k typ teid sequence t values) (emitted 0 (outerPieces (givenRows t values)))
 
--- from type, instance, message and table a part
+-- from kind, type, instance, message and table a part
 abbrev pub Lookup : Type 0
-Lookup = ℕ → ℕ → RefT (List ℕ) → List ℕ → RefT (List ℕ)
+Lookup = ℕ → ℕ → ℕ → RefT (List ℕ) → List ℕ → RefT (List ℕ)
 
-pub record GivenPair (y i : ℕ) (m : RefT (List ℕ)) (t : List ℕ) : Type 0 where
+pub record GivenPair (k y i : ℕ) (m : RefT (List ℕ)) (t : List ℕ) : Type 0 where
+  pub kind : ltb k kindBound ≡ true
   pub typ : ltb y numberBound ≡ true
   pub inst : ltb i numberBound ≡ true
   pub octets : below octetBound (now m) ≡ true
   pub numbers : below numberBound t ≡ true
 
 abbrev pub IsPlain : Lookup → Type 0
-IsPlain f = (y i : ℕ) (m : RefT (List ℕ)) (t : List ℕ) → GivenPair y i m t → Plain y i m t (f y i m t)
+IsPlain f = (k y i : ℕ) (m : RefT (List ℕ)) (t : List ℕ) → GivenPair k y i m t → Plain k y i m t (f k y i m t)
 
--- from row, right, message, copy and table a part
+-- from kind, row, right, message, copy and table a part
 abbrev pub DeskLookup : Type 0
-DeskLookup = ℕ → Bool → RefT (List ℕ) → RefT (List ℕ) → List ℕ → RefT (List ℕ)
+DeskLookup = ℕ → ℕ → Bool → RefT (List ℕ) → RefT (List ℕ) → List ℕ → RefT (List ℕ)
 
-pub record GivenRow (r : ℕ) (m c : RefT (List ℕ)) (t : List ℕ) : Type 0 where
+pub record GivenRow (k r : ℕ) (m c : RefT (List ℕ)) (t : List ℕ) : Type 0 where
+  pub kind : ltb k kindBound ≡ true
   pub row : ltb r rowBound ≡ true
   pub octets : below octetBound (now m) ≡ true
   pub copied : below octetBound (now c) ≡ true
   pub numbers : below numberBound t ≡ true
 
 abbrev pub IsDesk : DeskLookup → Type 0
-IsDesk f = (r : ℕ) (right : Bool) (m c : RefT (List ℕ)) (t : List ℕ) → GivenRow r m c t → Desk r right m c t (f r right m c t)
+IsDesk f = (k r : ℕ) (right : Bool) (m c : RefT (List ℕ)) (t : List ℕ) → GivenRow k r m c t → Desk k r right m c t (f k r right m c t)
 
 -- the listings with no group's inside, and the same mandatory pairs at the message level
 unfoldable pub outerLine : Line → Line

@@ -11,7 +11,7 @@ use native.Mathlib.Omega.{arith}
 use borrow.Author.Tests.{eq-eqb, le-leb, lt-ltb, le-ltb, ltb-true}
 use lib.Dec.{eqb, ltb}
 use lib.ListN.{length, take, drop, length-drop}
-use Rattle.rules.specs.Framing.{elementHeader, headerLength}
+use Rattle.rules.specs.Framing.{elementHeader, messageType, headerLength}
 use Rattle.rules.specs.Types.{isGroup}
 use Rattle.rules.specs.Listings.{book}
 use Rattle.rules.specs.Standing.{Item, fresh, itemOf, standing, valuePlace, valueEnd}
@@ -28,7 +28,7 @@ use Rattle.rules.proofs.Places.{Ranged, ranged}
 use Rattle.rules.proofs.Rows.{Every, every-map}
 use Rattle.rules.proofs.Standings.{entered-kept}
 use Rattle.tables.specs.Words.{levelTo}
-use Rattle.tables.proofs.Rowed.{own-begins}
+use Rattle.tables.proofs.Rowed.{own-begins, own-of}
 use Rattle.verdicts.specs.IsCut.{CutHere, IsCut}
 use Rattle.verdicts.proofs.Accepting.{pass-header}
 use Rattle.verdicts.proofs.CutPlace.{nine-at}
@@ -118,15 +118,15 @@ module _ (k : ℕ) (m : List ℕ) where
       let c = cut-in book book-sound k m q (is-cut book book-sound k m (nine .1 .0) q (nine .1 .1)) in
       let is = c .0 in
       let d = part-taken k m q is (c .1) in
-      let t = tableOf is in
-      let u = cut-level book book-sound k m t is (own-begins is) q d (passes .has-header) (passes .listed) in
+      let t = tableOf (messageType m) k is in
+      let u = cut-level book book-sound k m t is (own-begins (messageType m) k is) q d (passes .has-header) (passes .listed) in
       let whole : headerLength m + length (drop (headerLength m) m) ≡ length m = omega (arith, length-drop (headerLength m) m, passes .has-header) in
       let end : levelEnd (readItems book k m) q (length m) ≡ levelTo m t (u .0) = rw (items-read passes q is (c .1), ← whole) (part-end d) ∙ sym (u .2) in (
         t,
         (
           u .0,
           record {
-            is-cut = cut-rows book book-sound k m t is (own-begins is) q d (passes .has-header) (passes .listed);
+            is-cut = cut-rows book book-sound k m t is (own-begins (messageType m) k is) q d (passes .has-header) (passes .listed) (own-of k m is);
             level = u .1;
             few-left = rw end (one-iff (levelTo m t (u .0)) (q + elementHeader));
           },

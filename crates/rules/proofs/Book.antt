@@ -2,10 +2,13 @@
 use mathlib.Core.Path.{_≡_, refl}
 use mathlib.Core.Bool.{Bool, true, false, cond, not, _&&_, Bool·beq}
 use mathlib.Core.List.{List, [], _∷_, map}
-use Prim.Native.Nat.{ℕ}
+use Prim.Native.Nat.{ℕ, _<_}
+use native.Mathlib.Omega.{arith}
+use native.Mathlib.Decide.{ℕ-discrete}
+use borrow.Author.Tests.{ne-eqb}
 use lib.Dec.{ltb}
 use lib.ListN.{length}
-use Rattle.rules.specs.Types.{groups, isGroup}
+use Rattle.rules.specs.Types.{among, groups, isGroup}
 use Rattle.rules.specs.Listings.{Line, allKinds, levels, messages, book, seek, seekMessage, listing, messageOf}
 use Rattle.rules.specs.Sound.{everyLine, clash, distinct, everyLevel, everyMessage, sound}
 
@@ -31,3 +34,14 @@ mandatory (l ∷ ls) = cond (l .must) ((l .typ ∷ l .inst ∷ []) ∷ mandatory
 pub must-of-32 : mandatory (listing book (messageOf book 32 .body)) ≡ (82 ∷ 0 ∷ []) ∷ (87 ∷ 0 ∷ []) ∷ (71 ∷ 0 ∷ []) ∷ (93 ∷ 0 ∷ []) ∷ []
 unfolding mandatory book levels messages seekMessage listing messageOf
 must-of-32 = refl
+
+-- a kind is a small number
+pub kind-low : (k : ℕ) → among k (book .kinds) ≡ true → k < 4
+unfolding book
+kind-low k e = go (ℕ-discrete k 1) (ℕ-discrete k 2) (ℕ-discrete k 3)
+  where
+    go : Dec (k ≡ 1) → Dec (k ≡ 2) → Dec (k ≡ 3) → k < 4
+    go (yes p) q r = omega arith
+    go (no p) (yes q) r = omega arith
+    go (no p) (no q) (yes r) = omega arith
+    go (no p) (no q) (no r) = let z : false ≡ true = rw (ne-eqb k 1 p, ne-eqb k 2 q, ne-eqb k 3 r) at e in let y : _≡_ {A = ℕ} 0 1 = cc in absurd (omega arith)

@@ -11,9 +11,11 @@ use Rattle.rules.specs.Verdicts.{check, first, shortChecks, hasKept, lev
 use Rattle.rules.specs.Covered.{openOctets, zeroed, clearAll, masked, maskCopy}
 use Rattle.rules.specs.Emitting.{sizeOf, sizes, within, emitted}
 use Rattle.rules.specs.Cleaned.{received, pieces, cleaned, cleanChecks, cleanLength, cleanCopy}
-use Rattle.rules.specs.Built.{given, givens, standingKept, since, depthFirst, someRow, anyOf, reasons, built, buildChecks, buildLength, buildRoom}
+use Rattle.rules.specs.Values.{standingKept, isOf, tableRows, rowSpan, deskSpan, isPlain, seekPlain, plainSpan}
+use Rattle.rules.specs.Built.{given, givens, since, depthFirst, someRow, anyOf, reasons, built, buildChecks, headedChecks, buildLength, buildRoom}
 use Rattle.rules.specs.Examples.{examples, outcome, written}
 use Rattle.rules.specs.CleanExamples.{cleanings, cleanOutcome, cleanWritten}
+use Rattle.rules.specs.LookupExamples.{lookups, lookupOutcome, lookupWritten}
 use Rattle.rules.specs.BuildExamples.{builds, buildOutcome, buildWritten}
 
 pub a-to-m : map outcome examples ≡ map written examples
@@ -24,8 +26,12 @@ pub all-cleanings : map cleanOutcome cleanings ≡ map cleanWritten cleanings
 unfolding cleanings version flagP flagT messageType lengthField headerLength headOf parteds leastByType leastOf groups isGroup levels messages book seek seekMessage listing messageOf isMessage isShort markAfter standing marked entered itemOf run walk itemsOf bodyLevel taken laid check first shortChecks hasKept levelChecks groupChecks lackChecks headerChecks framingChecks sizeOf within emitted received pieces cleaned cleanChecks cleanLength cleanCopy
 all-cleanings = refl
 
+pub all-lookups : map lookupOutcome lookups ≡ map lookupWritten lookups
+unfolding lookups standingKept isOf tableRows rowSpan deskSpan isPlain seekPlain plainSpan
+all-lookups = refl
+
 pub all-builds : map buildOutcome builds ≡ map buildWritten builds
-unfolding builds version flagP flagT messageType lengthField headerLength headOf parteds leastByType leastOf groups isGroup levels messages book seek seekMessage listing messageOf isMessage isShort markAfter standing marked entered itemOf run walk itemsOf bodyLevel taken keptRows laid check first shortChecks hasKept levelChecks groupChecks lackChecks headerChecks framingChecks judgeChecks sizeOf sizes within emitted given givens standingKept since depthFirst someRow anyOf reasons built buildChecks buildLength buildRoom
+unfolding builds version flagP flagT messageType lengthField headerLength headOf parteds leastByType leastOf groups isGroup levels messages book seek seekMessage listing messageOf isMessage isShort markAfter standing marked entered itemOf run walk itemsOf bodyLevel taken keptRows laid check first shortChecks hasKept levelChecks groupChecks lackChecks headerChecks framingChecks judgeChecks sizeOf sizes within emitted given givens standingKept since depthFirst someRow anyOf reasons built buildChecks headedChecks buildLength buildRoom
 all-builds = refl
 
 -- a User Location with no part, with each of the six alone, with TAI and ECGI, with all, with the two highest bits alone, and with every bit

@@ -13,8 +13,8 @@ use lib.ListN.{length, getD}
 use Rattle.rules.specs.Sizes.{headerNumbers, used}
 use Rattle.rules.specs.Types.{isGroup}
 use Rattle.rules.specs.Standing.{kept}
-use Rattle.rules.specs.Values.{rowType, rowInstance, rowPlace, rowLength, rowStanding}
-use Rattle.rules.specs.Built.{rowCount, givenRows, standingKept, isCut, disagrees, depthFirst, misplaced, notKept, bigType, bigInstance, outside, someRow, anyRow, bigSequence, anyOf, reasons}
+use Rattle.rules.specs.Values.{rowType, rowInstance, rowPlace, rowLength, rowStanding, rowCount, standingKept, isCut, disagrees}
+use Rattle.rules.specs.Built.{givenRows, depthFirst, misplaced, notKept, bigType, bigInstance, outside, someRow, anyRow, bigSequence, anyOf, reasons}
 
 pub record RowRight (t values : List ℕ) (r : ℕ) : Type 0 where
   pub stand : rowStanding t r ≡ kept

@@ -5,6 +5,7 @@ use mathlib.Core.Bool.{Bool, true, false, cond}
 use mathlib.Core.List.{List, []}
 use lib.ListN.{length}
 use denote.Ref.{RefT, now}
+use Rattle.rules.specs.Framing.{messageType}
 use Rattle.rules.specs.Listings.{Book, book}
 use Rattle.rules.specs.Standing.{Item}
 use Rattle.rules.specs.Taking.{Out, cut, whole, taken, bodyLevel, itemsIn}
@@ -54,7 +55,13 @@ pub record Read (kind : ℕ) (message rows : List ℕ) (answer : Reading) (rows�
 
 -- its decision, for a table of so many numbers
 unfoldable pub decisionOf : Book → ℕ → List ℕ → ℕ → Decision
-decisionOf b k m room = record { verdict = judgeVerdict b k m room; rows = readingOf b k m .rows; kept = readingOf b k m .kept }
+decisionOf b k m room = record {
+  verdict = judgeVerdict b k m room;
+  rows = readingOf b k m .rows;
+  kept = readingOf b k m .kept;
+  typ = cond (refuses (judgeVerdict b k m room)) 0 (messageType m);
+  kind = cond (refuses (judgeVerdict b k m room)) 0 k;
+}
 
 pub record Decided (kind : ℕ) (message rows : List ℕ) (room : ℕ) (answer : Decision) (rows′ : List ℕ) : Type 0 where
   pub answers : answer ≡ decisionOf book kind message room
@@ -79,26 +86,26 @@ pub record Cleans (kind : ℕ) (message out : List ℕ) (answer : Sent) (out′ 
 
 -- ---- the builder
 
-pub record Builds (kind typ teid sequence : ℕ) (table values room : List ℕ) (answer : Sent) (room′ : List ℕ) : Type 0 where
-  pub verdict-is : answer .verdict ≡ buildVerdict book kind typ teid sequence table values (length room)
-  pub length-is : answer .length ≡ buildLength book kind typ teid sequence table values (length room)
-  pub room-left : room′ ≡ buildRoom book kind typ teid sequence table values room
+pub record Builds (teid sequence : ℕ) (table values room : List ℕ) (answer : Sent) (room′ : List ℕ) : Type 0 where
+  pub verdict-is : answer .verdict ≡ buildVerdict book teid sequence table values (length room)
+  pub length-is : answer .length ≡ buildLength book teid sequence table values (length room)
+  pub room-left : room′ ≡ buildRoom book teid sequence table values room
 
 -- ---- the lookups and their companions
 
-abbrev pub Plain : ℕ → ℕ → RefT (List ℕ) → List ℕ → RefT (List ℕ) → Type 0
-Plain typ inst message table part = Stands message (plainSpan typ inst (length (now message)) table) part
+abbrev pub Plain : ℕ → ℕ → ℕ → RefT (List ℕ) → List ℕ → RefT (List ℕ) → Type 0
+Plain kind typ inst message table part = Stands message (plainSpan kind typ inst (now message) table) part
 
-abbrev pub PlainFound : ℕ → ℕ → List ℕ → List ℕ → Bool → Type 0
-PlainFound typ inst message table answer = answer ≡ plainSpan typ inst (length message) table .there
+abbrev pub PlainFound : ℕ → ℕ → ℕ → List ℕ → List ℕ → Bool → Type 0
+PlainFound kind typ inst message table answer = answer ≡ plainSpan kind typ inst message table .there
 
--- with the right a part of the message, without it one of the copy
-abbrev pub Desk : ℕ → Bool → RefT (List ℕ) → RefT (List ℕ) → List ℕ → RefT (List ℕ) → Type 0
-Desk row right message copy table part =
-    Stands (cond right message copy) (deskSpan row (length (now message)) (length (now copy)) table) part
+-- with the right a part of the message, without it one of the copy; the copy's type is not looked at
+abbrev pub Desk : ℕ → ℕ → Bool → RefT (List ℕ) → RefT (List ℕ) → List ℕ → RefT (List ℕ) → Type 0
+Desk kind row right message copy table part =
+    Stands (cond right message copy) (deskSpan kind row (now message) (length (now copy)) table) part
 
-abbrev pub DeskFound : ℕ → Bool → List ℕ → List ℕ → List ℕ → Bool → Type 0
-DeskFound row right message copy table answer = answer ≡ deskSpan row (length message) (length copy) table .there
+abbrev pub DeskFound : ℕ → ℕ → Bool → List ℕ → List ℕ → List ℕ → Bool → Type 0
+DeskFound kind row right message copy table answer = answer ≡ deskSpan kind row message (length copy) table .there
 
 -- ---- the exports to C: the code is the result
 
@@ -118,8 +125,8 @@ pub record CleanedOctets (kind : ℕ) (message clean answer : List ℕ) (code : 
   pub answer-left : answer′ ≡ answerLaid (cleanVerdict book kind message (length clean)) (cleanLength book kind message (length clean)) answer
 
 -- the table's numbers are those that its octets are read as
-pub record BuiltOctets (kind typ teid sequence : ℕ) (table values room answer : List ℕ) (code : ℕ) (room′ answer′ : List ℕ) : Type 0 where
-  pub answers : code ≡ buildVerdict book kind typ teid sequence (numbersIn table) values (length room) .code
-  pub room-left : room′ ≡ buildRoom book kind typ teid sequence (numbersIn table) values room
+pub record BuiltOctets (teid sequence : ℕ) (table values room answer : List ℕ) (code : ℕ) (room′ answer′ : List ℕ) : Type 0 where
+  pub answers : code ≡ buildVerdict book teid sequence (numbersIn table) values (length room) .code
+  pub room-left : room′ ≡ buildRoom book teid sequence (numbersIn table) values room
   pub answer-left : answer′
-      ≡ answerLaid (buildVerdict book kind typ teid sequence (numbersIn table) values (length room)) (buildLength book kind typ teid sequence (numbersIn table) values (length room)) answer
+      ≡ answerLaid (buildVerdict book teid sequence (numbersIn table) values (length room)) (buildLength book teid sequence (numbersIn table) values (length room)) answer

@@ -1,4 +1,5 @@
--- The builder (rules 12.1 to 12.7): a message from a kind, a message type, a TEID, a sequence number, a table and a buffer of values. Assumes nothing.
+-- The builder (rules 12.1 to 12.6): a message from a TEID, a sequence number, a table, which says message type and kind, and a buffer of values. Assumes
+-- nothing.
 use mathlib.Core.Path.{_≡_}
 use Prim.Native.Nat.{ℕ, zero, suc, _+_, _-_, _*_, _/_, _%_, _<_}
 use mathlib.Core.Bool.{Bool, true, false, cond, not, _&&_, _||_}
@@ -11,7 +12,7 @@ use Rattle.rules.specs.Types.{among, isGroup}
 use Rattle.rules.specs.Listings.{Book, Message, messageOf, isMessage}
 use Rattle.rules.specs.Standing.{kept}
 use Rattle.rules.specs.Table.{laid}
-use Rattle.rules.specs.Values.{rowParent, rowType, rowInstance, rowPlace, rowLength, rowStanding}
+use Rattle.rules.specs.Values.{rowParent, rowType, rowInstance, rowPlace, rowLength, rowStanding, rowCount, tableType, tableKind, isCut, disagrees}
 use Rattle.rules.specs.Verdicts.{check, refused, refuses, first}
 use Rattle.rules.specs.declared.Verdict.{Verdict}
 use Rattle.rules.specs.Emitting.{Piece, sizes, emitted, written, acceptedWhole}
@@ -49,28 +50,10 @@ unfoldable pub givens : List ℕ → List ℕ → ℕ → ℕ → List Piece
 givens t values r zero = []
 givens t values r (suc n) = given t values r ∷ givens t values (suc r) n
 
-abbrev pub rowCount : List ℕ → ℕ
-rowCount t = getD t 0 0
-
 abbrev pub givenRows : List ℕ → List ℕ → List Piece
 givenRows t values = givens t values 0 (rowCount t)
 
 -- ---- the reasons of 14 (rule 12.4)
-
--- the table is shorter than its header, or than the numbers used
-abbrev pub isCut : List ℕ → Bool
-isCut t = ltb (length t) headerNumbers || ltb (length t) (getD t 3 0)
-
--- of n rows from r on, those of standing 0
-unfoldable pub standingKept : List ℕ → ℕ → ℕ → ℕ
-standingKept t r zero = 0
-standingKept t r (suc n) = cond (eqb (rowStanding t r) kept) (suc (standingKept t (suc r) n)) (standingKept t (suc r) n)
-
--- the header is not that of its rows: where they begin (4), how many numbers they use, or how many of them standing 0 marks is told wrong
-abbrev pub disagrees : List ℕ → Bool
-disagrees t =
-    not (eqb (getD t 2 0) headerNumbers) || not (eqb (getD t 3 0) (used (rowCount t)))
-    || not (eqb (getD t 1 0) (standingKept t 0 (rowCount t)))
 
 -- those of a list from p on
 unfoldable pub since : ℕ → List ℕ → List ℕ
@@ -162,21 +145,32 @@ module _ (b : Book) (k typ teid sequence : ℕ) (t values : List ℕ) where
       ∷ check (not (acceptedWhole b k built)) (refused 16 0)
       ∷ []
 
+  abbrev pub lateVerdict : ℕ → Verdict
+  lateVerdict room = first (buildChecks room)
+
+-- the type and the kind are the table's own; one too short to say them is 14 before all else
+module _ (b : Book) (teid sequence : ℕ) (t values : List ℕ) where
+  abbrev pub builtBy : List ℕ
+  builtBy = built b (tableKind t) (tableType t) teid sequence t values
+
+  unfoldable pub headedChecks : ℕ → List Verdict
+  headedChecks room = check (ltb (length t) headerNumbers) (refused 14 0) ∷ buildChecks b (tableKind t) (tableType t) teid sequence t values room
+
   abbrev pub buildVerdict : ℕ → Verdict
-  buildVerdict room = first (buildChecks room)
+  buildVerdict room = first (headedChecks room)
 
   -- a refusal writes nothing, and its length is 0; the room past the message stays
   unfoldable pub buildRoom : List ℕ → List ℕ
-  buildRoom room = cond (refuses (buildVerdict (length room))) room (laid built room)
+  buildRoom room = cond (refuses (buildVerdict (length room))) room (laid builtBy room)
 
   unfoldable pub buildLength : ℕ → ℕ
-  buildLength room = cond (refuses (buildVerdict room)) 0 (length built)
+  buildLength room = cond (refuses (buildVerdict room)) 0 (length builtBy)
 
--- the numbers that it is refused with, in the order of its checks
+-- the numbers that it is refused with; 14 comes first where the table is too short for a header
 abbrev pub buildNumbers : List ℕ
 buildNumbers = 1 ∷ 7 ∷ 14 ∷ 15 ∷ 16 ∷ []
 
--- ---- a message rebuilt from itself (rule 12.7)
+-- ---- a message rebuilt from itself (rule 12.6)
 
 unfoldable pub teidOf : List ℕ → ℕ
 teidOf m = octet m 4 * 16777216 + octet m 5 * 65536 + octet m 6 * 256 + octet m 7

@@ -38,11 +38,11 @@ cleanInner = set (headG 0x11) 0 0x4F ++ (0x5D ∷ 0x00 ∷ 0x05 ∷ 0xA0 ∷ 0x4
 unfoldable pub cleanings : List Cleaning
 cleanings =
     -- K on kind 1: 180/1 is set aside, and G is left; with a buffer of just so many octets, and of one less: 13
-    cleaning 1 messageK 23 accepted 21 messageG ∷
+    cleaning 1 messageK 25 accepted 21 messageG ∷
     cleaning 1 messageK 21 accepted 21 messageG ∷
     cleaning 1 messageK 20 (refused 13 0) 0 [] ∷
     -- inside a group: both lengths are put right
-    cleaning 1 messageInner 23 accepted 21 cleanInner ∷
+    cleaning 1 messageInner 25 accepted 21 cleanInner ∷
     -- F: the repeat goes; the two exchanged, 11 comes before 13
     cleaning 1 (headF ++ firstF ++ secondF) 13 accepted 13 (set headF 3 0x09 ++ firstF) ∷
     cleaning 1 (headF ++ secondF ++ firstF) 0 (refusedAt 11 67 8 3 0) 0 [] ∷

@@ -27,7 +27,7 @@ pub record Outcome : Type 0 where
 
 -- a table of sevens with room for three rows and one number more
 abbrev pub sevens : List ℕ
-sevens = replicate 23 7
+sevens = replicate 25 7
 
 abbrev pub judge : ℕ → ℕ → List ℕ → Verdict → List ℕ → Example
 judge x k m v numbers =
@@ -71,8 +71,8 @@ messageM =
     0x03 ∷ 0x00 ∷ 0x01 ∷ 0x00 ∷ 0x07 ∷ 0xC8 ∷ 0x00 ∷ 0x02 ∷ 0x00 ∷ 0x11 ∷ 0x22 ∷ []
 
 -- the numbers of a table: its header, and a row
-abbrev pub head : ℕ → ℕ → ℕ → ℕ → List ℕ → List ℕ
-head a b c d rows = a ∷ b ∷ c ∷ d ∷ rows
+abbrev pub head : ℕ → ℕ → ℕ → ℕ → ℕ → ℕ → List ℕ → List ℕ
+head a b c d e f rows = a ∷ b ∷ c ∷ d ∷ e ∷ f ∷ rows
 
 abbrev pub line : ℕ → ℕ → ℕ → ℕ → ℕ → ℕ → List ℕ → List ℕ
 line p t i a n s rows = p ∷ t ∷ i ∷ a ∷ n ∷ s ∷ rows
@@ -87,16 +87,16 @@ examples =
     judge 0xB 1 (0x60 ∷ []) (refused 3 0) [] ∷
     -- C: `40`: 4
     judge 0xC 1 (0x40 ∷ []) (refused 4 0) [] ∷
-    -- D: table 1 1 4 10, 0 3 0 12 1 0; without its last octet: 6
-    judge 0xD 1 messageD accepted (head 1 1 4 10 (line 0 3 0 12 1 0 [])) ∷
+    -- D: table 1 1 6 12 1 1, 0 3 0 12 1 0; without its last octet: 6
+    judge 0xD 1 messageD accepted (head 1 1 6 12 1 1 (line 0 3 0 12 1 0 [])) ∷
     judge 0xD 1 (take 12 messageD) (refused 6 67) [] ∷
     -- E: 12, 70, 0, 3, 0
     judge 0xE 1 messageE (refusedAt 12 70 0 3 0) [] ∷
     -- F: accepted, second row 0 3 0 17 0 2; the two elements exchanged: 11, 67, 8, 3, 0
-    judge 0xF 1 (headF ++ firstF ++ secondF) accepted (head 2 1 4 16 (line 0 3 0 12 1 0 (line 0 3 0 17 0 2 []))) ∷
+    judge 0xF 1 (headF ++ firstF ++ secondF) accepted (head 2 1 6 18 1 1 (line 0 3 0 12 1 0 (line 0 3 0 17 0 2 []))) ∷
     judge 0xF 1 (headF ++ secondF ++ firstF) (refusedAt 11 67 8 3 0) [] ∷
     -- G: accepted; H: G with `60` for `5D`: 12, 70, 0, 93, 0
-    judge 0x10 1 messageG accepted (head 2 2 4 16 (line 0 93 0 16 5 0 (line 1 73 0 20 1 0 []))) ∷
+    judge 0x10 1 messageG accepted (head 2 2 6 18 66 1 (line 0 93 0 16 5 0 (line 1 73 0 20 1 0 []))) ∷
     judge 0x11 1 (set messageG 12 0x60) (refusedAt 12 70 0 93 0) [] ∷
     -- I: 12, 70, 12, 73, 0
     judge 0x12 1 (headG 0x0C ++ (0x5D ∷ 0x00 ∷ 0x00 ∷ 0x00 ∷ [])) (refusedAt 12 70 12 73 0) [] ∷
@@ -106,7 +106,7 @@ examples =
     ++ (0x5D ∷ 0x00 ∷ 0x05 ∷ 0x00 ∷ 0x49 ∷ 0x00 ∷ 0x0A ∷ 0x00 ∷ 0x05 ∷ 0x5D ∷ 0x00 ∷ 0x05 ∷ 0x00 ∷ 0x49 ∷ 0x00 ∷ 0x01 ∷ 0x00 ∷ 0x06 ∷ []))
     (refusedAt 9 67 16 0 0) [] ∷
     -- K: accepted, third row 0 180 1 25 0 1; L: K on kind 3: 12, 70, 21, 183, 0
-    judge 0x14 1 messageK accepted (head 3 2 4 22 (line 0 93 0 16 5 0 (line 1 73 0 20 1 0 (line 0 180 1 25 0 1 [])))) ∷
+    judge 0x14 1 messageK accepted (head 3 2 6 24 66 1 (line 0 93 0 16 5 0 (line 1 73 0 20 1 0 (line 0 180 1 25 0 1 [])))) ∷
     judge 0x15 3 messageK (refusedAt 12 70 21 183 0) [] ∷
     -- M: the copy ends `00 00`
     mask 0x16 1 messageM accepted (take 17 messageM ++ (0x00 ∷ 0x00 ∷ [])) ∷

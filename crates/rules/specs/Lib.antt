@@ -17,5 +17,6 @@ pub mod Answers
 pub mod Program
 pub mod Examples
 pub mod CleanExamples
+pub mod LookupExamples
 pub mod BuildExamples
 pub mod Sound

@@ -5,6 +5,7 @@ use mathlib.Core.List.{List, [], _∷_}
 use lib.Dec.{ltb}
 use lib.ListN.{length}
 use Rattle.rules.specs.Sizes.{fiveOctets, answerOctets}
+use Rattle.rules.specs.Framing.{messageType}
 use Rattle.rules.specs.Listings.{Book}
 use Rattle.rules.specs.Table.{laid, tableOf}
 use Rattle.rules.specs.Verdicts.{items, refuses, judgeVerdict}
@@ -43,4 +44,4 @@ tableRoom octets = length octets / 2
 
 unfoldable pub judgeOctets : Book → ℕ → List ℕ → List ℕ → List ℕ
 judgeOctets b k m octets =
-    cond (refuses (judgeVerdict b k m (tableRoom octets))) octets (laid (octetsOf (tableOf (items b k m))) octets)
+    cond (refuses (judgeVerdict b k m (tableRoom octets))) octets (laid (octetsOf (tableOf (messageType m) k (items b k m))) octets)

@@ -11,7 +11,7 @@ mostRows = 1022
 
 -- the numbers of a table's header, which is also the place of the first row
 abbrev pub headerNumbers : ℕ
-headerNumbers = 4
+headerNumbers = 6
 
 -- the numbers of a row
 abbrev pub rowNumbers : ℕ

@@ -1,4 +1,4 @@
--- The table: a header of four numbers, then six an element (rules 5.1, 5.2). Assumes nothing.
+-- The table: a header of six numbers, then six an element (rules 5.1, 5.2). Assumes nothing.
 use Prim.Native.Nat.{ℕ, suc, _+_, _*_, _/_}
 use mathlib.Core.Bool.{Bool, true, false, cond}
 use mathlib.Core.List.{List, [], _∷_, _++_}
@@ -19,16 +19,16 @@ unfoldable pub keptRows : List Item → ℕ
 keptRows [] = 0
 keptRows (i ∷ is) = cond (eqb (i .stand) kept) (suc (keptRows is)) (keptRows is)
 
--- rows, kept rows, place of the first row, numbers used
-unfoldable pub header : List Item → List ℕ
-header is = length is ∷ keptRows is ∷ headerNumbers ∷ used (length is) ∷ []
+-- rows, kept rows, place of the first row, numbers used; then what it is a table of: message type, kind
+unfoldable pub header : ℕ → ℕ → List Item → List ℕ
+header typ k is = length is ∷ keptRows is ∷ headerNumbers ∷ used (length is) ∷ typ ∷ k ∷ []
 
-unfoldable pub tableOf : List Item → List ℕ
-tableOf is = header is ++ rowsOf is
+unfoldable pub tableOf : ℕ → ℕ → List Item → List ℕ
+tableOf typ k is = header typ k is ++ rowsOf is
 
 -- a table's numbers by its counts, from rows that stand at the start of a run of numbers
-abbrev pub numbersBy : ℕ → ℕ → List ℕ → List ℕ
-numbersBy n kept rows = n ∷ kept ∷ headerNumbers ∷ used n ∷ take (rowNumbers * n) rows
+abbrev pub numbersBy : ℕ → ℕ → ℕ → ℕ → List ℕ → List ℕ
+numbersBy n kept typ k rows = n ∷ kept ∷ headerNumbers ∷ used n ∷ typ ∷ k ∷ take (rowNumbers * n) rows
 
 -- numbers laid over the start of what is lent: those past the ones used stay
 unfoldable pub laid : List ℕ → List ℕ → List ℕ

@@ -154,7 +154,7 @@ module _ (b : Book) (k : ℕ) (m : List ℕ) where
 
   -- the judge writes the table only on acceptance
   unfoldable pub judgeTable : List ℕ → List ℕ
-  judgeTable table = cond (refuses (judgeVerdict (length table))) table (laid (tableOf items) table)
+  judgeTable table = cond (refuses (judgeVerdict (length table))) table (laid (tableOf (messageType m) k items) table)
 
 -- the numbers of checks 1 to 9; those that the judge gives, in the order of its checks, and those of the masker
 abbrev pub framingNumbers : List ℕ

@@ -30,11 +30,14 @@ pub struct Reading {
     pub lack: Verdict,
 }
 
-// What the judge decides of a message for a table of some room: the verdict, and the rows and kept rows of its table.
+// What the judge decides of a message for a table of some room: the verdict, and the numbers of its table's header: rows, kept rows, and on
+// acceptance message type and kind, else 0.
 pub struct Decision {
     pub verdict: Verdict,
     pub rows: usize,
     pub kept: usize,
+    pub typ: u16,
+    pub kind: u16,
 }
 
 // What is answered where a message is written: the verdict, and how many octets were written, 0 if refused.

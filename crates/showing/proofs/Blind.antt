@@ -1,6 +1,6 @@
 -- What a page tells without the right to see subscribers. Assumes nothing.
 --     refused-blind    of a message that 1 to 9 refuse: its kind, the verdict, its length, its first four octets, and which of its two reasons 9 had
---     page-blind       of any other: its kind and length, the verdict, the table and the masked copy
+--     page-blind       of any other: its kind, length and type, the verdict, the table and the masked copy
 --     covered-unseen   so two messages that differ in covered octets alone have one page
 use mathlib.Core.Path.{_≡_, refl, sym, ap, _∙_}
 use mathlib.Core.Bool.{Bool, true, false, cond}
@@ -15,13 +15,13 @@ use Rattle.rules.specs.Framing.{octet, version, flagT, messageType, lengthField
 use Rattle.rules.specs.Listings.{book}
 use Rattle.rules.specs.Verdicts.{refused, check, refuses, first, framingChecks, copyCheck, maskChecks, judgeVerdict, maskVerdict}
 use Rattle.rules.specs.Covered.{maskCopy}
-use Rattle.rules.specs.Values.{tableRows}
+use Rattle.rules.specs.Values.{isOf, tableRows, rowSpan, deskSpan}
 use Rattle.rules.specs.declared.Verdict.{Verdict}
 use Rattle.rules.proofs.Book.{book-sound}
 use Rattle.rules.proofs.Checks.{first-append}
 use Rattle.rules.proofs.Header.{framed}
 use Rattle.promises.specs.Agreeing.{SameOpen}
-use Rattle.promises.proofs.Agreeing.{refused-same, same-taken}
+use Rattle.promises.proofs.Agreeing.{refused-same, same-reading, same-taken}
 use Rattle.promises.proofs.Main.{both-verdict, both-mask-verdict, both-copy}
 use Rattle.wording.specs.Pieces.{forEach}
 use Rattle.columns.specs.Rows.{rowLine, rowLines}
@@ -69,14 +69,24 @@ module _ (names : List ℕ) (w : View) (r : w .right ≡ false) where
   lines-same f g e i zero = refl
   lines-same f g e i (suc n) = rw (e i, lines-same f g e (suc i) n)
 
-  row-blind : (v : Verdict) (table copy m n : List ℕ) → length n ≡ length m → (i : ℕ) → rowLine names w v table n copy i ≡ rowLine names w v table m copy i
-  unfolding rowLine
-  row-blind v table copy m n e i = rw (r, e)
+  -- two messages of one length and type are one to the lookups
+  module _ (m n : List ℕ) (e : length n ≡ length m) (f : octet n 1 ≡ octet m 1) where
+    rows-blind : (table : List ℕ) → tableRows (w .kind) n table ≡ tableRows (w .kind) m table
+    unfolding tableRows isOf
+    rows-blind table = rw (e, f)
 
-  pub page-blind : (v : Verdict) (table copy m n : List ℕ) → length n ≡ length m → readPage names w v table n copy ≡ readPage names w v table m copy
-  unfolding readPage rowLines
-  page-blind v table copy m n e =
-      rw (lines-same (rowLine names w v table n copy) (rowLine names w v table m copy) (row-blind v table copy m n e) 0 (tableRows table))
+    span-blind : (i size : ℕ) (table : List ℕ) → deskSpan (w .kind) i n size table ≡ deskSpan (w .kind) i m size table
+    unfolding deskSpan rowSpan
+    span-blind i size table = rw (rows-blind table, e)
+
+    row-blind : (v : Verdict) (table copy : List ℕ) (i : ℕ) → rowLine names w v table n copy i ≡ rowLine names w v table m copy i
+    unfolding rowLine
+    row-blind v table copy i = rw (r, span-blind i (length copy) table)
+
+    pub page-blind : (v : Verdict) (table copy : List ℕ) → readPage names w v table n copy ≡ readPage names w v table m copy
+    unfolding readPage rowLines
+    page-blind v table copy =
+        rw (rows-blind table, lines-same (rowLine names w v table n copy) (rowLine names w v table m copy) (row-blind v table copy) 0 (tableRows (w .kind) m table))
 
   -- ---- two messages that differ in covered octets alone
 
@@ -89,9 +99,14 @@ module _ (names : List ℕ) (w : View) (r : w .right ≡ false) where
     unfolding maskChecks first check
     mask-passes e = rw (first-append (framingChecks book k m) (copyCheck book k m (length m) ∷ []), e, le-ltb (length m) (length m) (omega arith))
 
+    -- the type is open
+    type-same : octet n 1 ≡ octet m 1
+    unfolding messageType
+    type-same = same-reading book book-sound k m n s .typ
+
     table-same : tableRead k n ≡ tableRead k m
-    unfolding tableRead
-    table-same = rw (same-taken book book-sound k m n s)
+    unfolding tableRead messageType
+    table-same = rw (same-taken book book-sound k m n s, type-same)
 
     read-unseen : refuses (first (framingChecks book k m)) ≡ false → pageOf names w n ≡ pageOf names w m
     unfolding pageOf page
@@ -99,7 +114,7 @@ module _ (names : List ℕ) (w : View) (r : w .right ≡ false) where
         let masking : maskVerdict book k n (length n) ≡ maskVerdict book k m (length m) = both-mask-verdict k m n s (length n) ∙ ap (maskVerdict book k m) (s .size) in
         let copy : maskCopy book k n (copyRoom n) ≡ maskCopy book k m (copyRoom m) = both-copy k m n s (copyRoom n) ∙ ap (λ c. maskCopy book k m (replicate c 0)) (s .size) in
         rw (masking, mask-passes e, both-verdict k m n s (used mostRows), table-same, copy)
-        (page-blind (judgeVerdict book k m (used mostRows)) (tableRead k m) (maskCopy book k m (copyRoom m)) m n (s .size))
+        (page-blind m n (s .size) type-same (judgeVerdict book k m (used mostRows)) (tableRead k m) (maskCopy book k m (copyRoom m)))
 
     pub covered-unseen : pageOn names w n ≡ pageOn names w m
     unfolding pageOn

@@ -1,18 +1,17 @@
 -- A page whose values are cut has at most 163,840 octets, so that a buffer of that length never cuts it: a row's line has at most 158, and a message at most
 -- 1,022 rows. Assumes nothing.
 use mathlib.Core.Path.{_≡_, refl, _∙_}
-use mathlib.Core.Bool.{Bool, true, false, cond, _||_}
+use mathlib.Core.Bool.{Bool, true, false, cond}
 use mathlib.Core.List.{List, [], _∷_, _++_}
 use Prim.Native.Nat.{ℕ, _+_, _*_, _≤_}
 use native.Mathlib.Omega.{arith}
-use lib.Dec.{ltb}
 use lib.ListN.{length, take, getD, length-append, length-take}
-use Rattle.rules.specs.Sizes.{mostRows, headerNumbers, used}
+use Rattle.rules.specs.Sizes.{mostRows, used}
 use Rattle.rules.specs.Listings.{book}
 use Rattle.rules.specs.Table.{header, tableOf, laid}
 use Rattle.rules.specs.Verdicts.{refuses, first, framingChecks, copyCheck, maskChecks, judgeVerdict, maskVerdict, items}
 use Rattle.rules.specs.Covered.{maskCopy}
-use Rattle.rules.specs.Values.{tableRows}
+use Rattle.rules.specs.Values.{isOf, tableRows}
 use Rattle.rules.specs.declared.Verdict.{Verdict}
 use Rattle.rules.proofs.Checks.{both-pass}
 use Rattle.rules.proofs.Readings.{few, count-is}
@@ -25,19 +24,16 @@ use Rattle.refusing.specs.Refused.{refusedPage}
 use Rattle.refusing.proofs.Lengths.{refused-length}
 use Rattle.showing.specs.Showing.{readPage, copyRoom, tableRead, page, pageOf, pageOn}
 
-rows-few : (k : ℕ) (m : List ℕ) → refuses (first (framingChecks book k m)) ≡ false → tableRows (tableRead k m) ≤ 1022
+rows-few : (k : ℕ) (m : List ℕ) → refuses (first (framingChecks book k m)) ≡ false → tableRows k m (tableRead k m) ≤ 1022
 unfolding tableRows tableRead tableOf header laid
-rows-few k m e = go (ltb (length t) headerNumbers || ltb (length t) (used (length (items book k m))))
+rows-few k m e = go (isOf k m (tableRead k m))
   where
-    t : List ℕ
-    t = tableRead k m
-
-    go : (c : Bool) → cond c 0 (length (items book k m)) ≤ 1022
-    go true = omega arith
-    go false = omega (arith, few book k m, count-is book k m e)
+    go : (c : Bool) → cond c (length (items book k m)) 0 ≤ 1022
+    go true = omega (arith, few book k m, count-is book k m e)
+    go false = omega arith
 
 module _ (names : List ℕ) (w : View) (f : w .full ≡ false) where
-  read-length : (v : Verdict) (table m copy : List ℕ) → tableRows table ≤ 1022 → length (readPage names w v table m copy) ≤ 163840
+  read-length : (v : Verdict) (table m copy : List ℕ) → tableRows (w .kind) m table ≤ 1022 → length (readPage names w v table m copy) ≤ 163840
   unfolding readPage
   read-length v table m copy l =
       omega (

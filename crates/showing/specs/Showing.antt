@@ -6,6 +6,7 @@ use mathlib.Core.Bool.{false, cond}
 use mathlib.Core.List.{List, [], _∷_, _++_}
 use lib.ListN.{length, take, replicate}
 use Rattle.rules.specs.Sizes.{largestMessage, mostRows, headerNumbers, used}
+use Rattle.rules.specs.Framing.{messageType}
 use Rattle.rules.specs.Listings.{book}
 use Rattle.rules.specs.Table.{tableOf, laid}
 use Rattle.rules.specs.Verdicts.{refuses, first, framingChecks, judgeVerdict, maskVerdict, items}
@@ -34,7 +35,7 @@ copyRoom m = replicate (length m) 0
 
 -- the rows of a message, whether 11 or 12 refuse it or not
 unfoldable pub tableRead : ℕ → List ℕ → List ℕ
-tableRead k m = laid (tableOf (items book k m)) tableRoom
+tableRead k m = laid (tableOf (messageType m) k (items book k m)) tableRoom
 
 -- by the masker's verdict on it, which is that of 1 to 9
 unfoldable pub page : List ℕ → View → Verdict → Verdict → List ℕ → List ℕ → List ℕ → List ℕ
@@ -50,9 +51,9 @@ pageOn names w m = pageOf names w (take (largestMessage + 1) m)
 
 -- ---- the parts of contracts
 
--- the header of the table of a decision, which fits in 16 bits and in the table
-abbrev pub headOf : Decision → List ℕ
-headOf d = d .rows ∷ d .kept ∷ headerNumbers ∷ used (d .rows) ∷ []
+-- the header of the table of a decision, of which the counts fit in 16 bits; it fits in the table
+abbrev pub headOf : Decision → ℕ → ℕ → List ℕ
+headOf d typ k = d .rows ∷ d .kept ∷ headerNumbers ∷ used (d .rows) ∷ typ ∷ k ∷ []
 
 pub record Headed (d : Decision) (room : ℕ) : Type 0 where
   pub few : d .rows ≤ mostRows

@@ -11,14 +11,16 @@ ghost use Rattle.scratch.specs.Zeros.{Zeros};
 ghost use Rattle.wording.specs.Puts.{Puts};
 ghost use Rattle.showing.specs.Showing.{copyRoom, tableRead, readPage, pageOf, pageOn, headOf, Headed, Listed};
 use columns::View;
+use phrases::runs::narrow;
+use phrases::runs::octet_at;
 use rules::Decision;
 use rules::Verdict;
 
 // Room for 1,022 rows.
-fn table_room() -> [u16; 6136]
+fn table_room() -> [u16; 6138]
     ensures { λ r. ⌜ Zeros (used mostRows) r ⌝ }
 {
-    [0; 6136]
+    [0; 6138]
 }
 
 // Room for the copy of any message that is read.
@@ -28,15 +30,17 @@ fn copy_room() -> [u8; 4097]
     [0; 4097]
 }
 
-// The counts of a table, before its rows.
-fn head(d: Decision, table: &mut [u16])
+// The header of a table, before its rows: the counts, and the message's type and the kind.
+fn head(d: Decision, typ: u16, kind: u16, table: &mut [u16])
     requires { ⌜ Headed d (length (now table)) ⌝ }
-    ensures { λ _. ⌜ now (table .exit) ≡ headOf d ++ drop 4 (now (table .entry)) ⌝ }
+    ensures { λ _. ⌜ now (table .exit) ≡ headOf d typ kind ++ drop 6 (now (table .entry)) ⌝ }
 {
     table[0] = d.rows as u16;
     table[1] = d.kept as u16;
-    table[2] = 4;
-    table[3] = (4 + 6 * d.rows) as u16;
+    table[2] = 6;
+    table[3] = (6 + 6 * d.rows) as u16;
+    table[4] = typ;
+    table[5] = kind;
 }
 
 // The verdict on a message, and its rows in a table, whether 11 or 12 refuse it or not.
@@ -44,8 +48,9 @@ fn list(kind: u32, message: &[u8], table: &mut [u16]) -> Verdict
     requires { ⌜ Zeros (used mostRows) (now table) ⌝ }
     ensures { λ r. ⌜ Listed kind (now (message .entry)) r (now (table .exit)) ⌝ }
 {
-    let d = judging::decide(kind, message, &mut table[4..], 6136);
-    head(d, table);
+    let d = judging::decide(kind, message, &mut table[6..], 6138);
+    let typ = octet_at(message, 1) as u16;
+    head(d, typ, narrow(kind as usize), table);
     d.verdict
 }
 

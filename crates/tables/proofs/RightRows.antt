@@ -19,7 +19,7 @@ use Rattle.rules.specs.Values.{rowParent, rowType, rowInstance, rowPlace, rowLe
 use Rattle.tables.specs.Words.{rows, keptCount, keptAmong, rowStart, rowEnd, RowOver, KeptGroup, IsLevel, Inside, Faithful}
 use Rattle.tables.specs.Levels.{levelOf}
 use Rattle.tables.specs.Standings.{StandsAs}
-use Rattle.tables.specs.IsTable.{IsRows}
+use Rattle.tables.specs.IsTable.{IsOf, IsRows}
 use Rattle.tables.specs.Places.{Within, Lies}
 use Rattle.tables.proofs.Rowed.{kept-from, Begins, row-of, count-of, kept-of, first-of, used-of, level-of}
 use Rattle.tables.proofs.Messages.{WalkedOf, all-stand, all-placed, all-backward, parent-before}
@@ -155,12 +155,13 @@ module _ (b : Book) (fine : sound b ≡ true) (k : ℕ) (m t : List ℕ) (es : L
       let some = group-level b fine k (bodyLevel b m) t q (g .there) (omega (arith, s .parent, back q (s .there))) (kept-listed b k m t q (standing q (g .there)) (g .stand)) g in
       omega (arith, some, levels q)
 
-  pub is-rows : IsRows b k m t
-  is-rows = record {
+  pub is-rows : IsOf k m t → IsRows b k m t
+  is-rows of = record {
     size = rw count (ok .room);
     kept-rows = kept-rows;
     first-row = first-of t es ok;
     numbers-used = used-of t es ok ∙ ap used (sym count);
+    of = of;
     has-body = body;
     faithful = faithful;
     parents = parents;

@@ -12,47 +12,69 @@ use lib.Dec.{eqb}
 use lib.ListN.{length, take, drop, getD, length-append, List·getD-append}
 use lib.Seq.{getD-append-add, take-suc, take-length, getD-take}
 use Rattle.rules.specs.Sizes.{headerNumbers, rowNumbers, used}
+use Rattle.rules.specs.Framing.{messageType}
 use Rattle.rules.specs.Listings.{Book}
 use Rattle.rules.specs.Standing.{Item, kept}
 use Rattle.rules.specs.Table.{row, rowsOf, keptRows, header, tableOf, laid, noItem, nth}
-use Rattle.rules.specs.Values.{cell, rowParent, rowType, rowInstance, rowStanding}
+use Rattle.rules.specs.Values.{cell, rowParent, rowType, rowInstance, rowStanding, tableType, tableKind}
 use Rattle.rules.proofs.Rows.{rows-length, in-rows, Every, every-at}
 use Rattle.rules.proofs.Places.{Stand}
 use Rattle.tables.specs.Words.{rows, keptAmong}
+use Rattle.tables.specs.IsTable.{IsOf}
 use Rattle.tables.specs.Levels.{levelBy, insideBy, insides, levelOf}
 use Rattle.tables.proofs.Placed.{levelIn, Placed, Backward, backward-at}
 
-pub table-length : (is : List Item) → length (tableOf is) ≡ used (length is)
+pub table-length : (typ k : ℕ) (is : List Item) → length (tableOf typ k is) ≡ used (length is)
 unfolding tableOf header
-table-length is = omega (arith, rows-length is)
+table-length typ k is = omega (arith, rows-length is)
 
-row-is : (is : List Item) (r c : ℕ) → r < length is → c < rowNumbers → cell (tableOf is) r c ≡ getD (row (nth is r)) c 0
+row-is : (typ k : ℕ) (is : List Item) (r c : ℕ) → r < length is → c < rowNumbers → cell (tableOf typ k is) r c ≡ getD (row (nth is r)) c 0
 unfolding tableOf header
-row-is is r c l h =
+row-is typ k is r c l h =
     let e : used r + c ≡ headerNumbers + (rowNumbers * r + c) = omega arith in
-    rw e (getD-append-add (length is ∷ keptRows is ∷ headerNumbers ∷ used (length is) ∷ []) (rowsOf is) (rowNumbers * r + c) 0 ∙ in-rows is r c l h)
+    rw e (getD-append-add (length is ∷ keptRows is ∷ headerNumbers ∷ used (length is) ∷ typ ∷ k ∷ []) (rowsOf is) (rowNumbers * r + c) 0 ∙ in-rows is r c l h)
 
--- the table of the elements stands at the start of t
+-- the table of the elements stands at the start of t, of whatever message type and kind
 pub record Begins (t : List ℕ) (is : List Item) : Type 0 where
   pub room : used (length is) ≤ length t
-  pub same : (i : ℕ) → i < used (length is) → getD t i 0 ≡ getD (tableOf is) i 0
+  pub same : (i : ℕ) → i < used (length is) → getD t i 0 ≡ getD (tableOf (tableType t) (tableKind t) is) i 0
 
-pub own-begins : (is : List Item) → Begins (tableOf is) is
-own-begins is = record { room = omega (arith, table-length is); same = λ i l. refl }
+pub own-begins : (typ k : ℕ) (is : List Item) → Begins (tableOf typ k is) is
+unfolding tableOf header
+own-begins typ k is = record { room = omega (arith, table-length typ k is); same = λ i l. refl }
 
-pub more-begins : (is : List Item) (more : List ℕ) → Begins (tableOf is ++ more) is
-more-begins is more = record {
-  room = omega (arith, table-length is, length-append (tableOf is) more);
-  same = λ i l. List·getD-append (tableOf is) more 0 i (omega (arith, l, table-length is));
+pub more-begins : (typ k : ℕ) (is : List Item) (more : List ℕ) → Begins (tableOf typ k is ++ more) is
+unfolding tableOf header
+more-begins typ k is more = record {
+  room = omega (arith, table-length typ k is, length-append (tableOf typ k is) more);
+  same = λ i l. List·getD-append (tableOf typ k is) more 0 i (omega (arith, l, table-length typ k is));
 }
 
-pub laid-begins : (is : List Item) (lent : List ℕ) → Begins (laid (tableOf is) lent) is
+pub laid-begins : (typ k : ℕ) (is : List Item) (lent : List ℕ) → Begins (laid (tableOf typ k is) lent) is
 unfolding laid
-laid-begins is lent = more-begins is (drop (length (tableOf is)) lent)
+laid-begins typ k is lent = more-begins typ k is (drop (length (tableOf typ k is)) lent)
+
+-- and says what it is a table of
+pub own-of : (k : ℕ) (m : List ℕ) (is : List Item) → IsOf k m (tableOf (messageType m) k is)
+unfolding tableOf header
+own-of k m is = record { of-type = refl; of-kind = refl }
+
+pub more-of : (k : ℕ) (m : List ℕ) (is : List Item) (more : List ℕ) → IsOf k m (tableOf (messageType m) k is ++ more)
+unfolding tableOf header
+more-of k m is more = record { of-type = refl; of-kind = refl }
+
+pub laid-of : (k : ℕ) (m : List ℕ) (is : List Item) (lent : List ℕ) → IsOf k m (laid (tableOf (messageType m) k is) lent)
+unfolding laid
+laid-of k m is lent = more-of k m is (drop (length (tableOf (messageType m) k is)) lent)
+
+-- so that each of its numbers is known
+pub begins-of : (k : ℕ) (m t : List ℕ) (is : List Item) → IsOf k m t → Begins t is → (i : ℕ) → i < used (length is) → getD t i 0 ≡ getD (tableOf (messageType m) k is) i 0
+begins-of k m t is o x i l =
+    x .same i l ∙ ap (λ (y : ℕ). getD (tableOf y (tableKind t) is) i 0) (o .of-type) ∙ ap (λ (y : ℕ). getD (tableOf (messageType m) y is) i 0) (o .of-kind)
 
 module _ (t : List ℕ) (is : List Item) (x : Begins t is) where
   pub row-of : (r c : ℕ) → r < length is → c < rowNumbers → cell t r c ≡ getD (row (nth is r)) c 0
-  row-of r c l h = x .same (used r + c) (omega arith) ∙ row-is is r c l h
+  row-of r c l h = x .same (used r + c) (omega arith) ∙ row-is (tableType t) (tableKind t) is r c l h
 
   -- the header
   pub count-of : rows t ≡ length is

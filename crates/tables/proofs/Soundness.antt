@@ -14,7 +14,7 @@ use Rattle.rules.specs.Met.{Met}
 use Rattle.rules.specs.Sound.{sound}
 use Rattle.rules.proofs.Rows.{body-met}
 use Rattle.tables.specs.Words.{RowOver, IsLevel, levelFrom, levelTo}
-use Rattle.tables.specs.IsTable.{IsTable}
+use Rattle.tables.specs.IsTable.{IsOf, IsTable}
 use Rattle.tables.proofs.Rowed.{Begins}
 use Rattle.tables.proofs.Messages.{WalkedOf, walked-of, all-stand}
 use Rattle.tables.proofs.Filling.{cover-own, cover-inside}
@@ -38,5 +38,5 @@ module _ (b : Book) (fine : sound b ≡ true) (k : ℕ) (m t : List ℕ) (es : L
       let z : suc (0 + q) ≡ suc q = omega arith in
       (r .0, over b fine k m t es ok walked body listed (suc q) j (r .0) (r .1) (rw z at (r .2)))
 
-  pub is-table : IsTable b k m t
-  is-table = record { right = is-rows b fine k m t es ok walked body listed; covers = covers }
+  pub is-table : IsOf k m t → IsTable b k m t
+  is-table of = record { right = is-rows b fine k m t es ok walked body listed of; covers = covers }

@@ -6,11 +6,16 @@ use mathlib.Core.List.{List}
 use Prim.Native.Nat.{ℕ, _≤_, _<_}
 use lib.ListN.{length}
 use Rattle.rules.specs.Sizes.{headerNumbers, used}
-use Rattle.rules.specs.Framing.{headerLength}
+use Rattle.rules.specs.Framing.{messageType, headerLength}
 use Rattle.rules.specs.Listings.{Book}
-use Rattle.rules.specs.Values.{rowParent, rowPlace, rowStanding}
+use Rattle.rules.specs.Values.{rowParent, rowPlace, rowStanding, tableType, tableKind}
 use Rattle.tables.specs.Words.{rows, keptCount, firstRow, numbersUsed, keptAmong, rowStart, rowEnd, RowOver, IsLevel, levelFrom, levelTo, Inside, Faithful}
 use Rattle.tables.specs.Standings.{StandsAs}
+
+-- it says that it is of this message's type and of this kind
+pub record IsOf (k : ℕ) (m t : List ℕ) : Type 0 where
+  pub of-type : tableType t ≡ messageType m
+  pub of-kind : tableKind t ≡ k
 
 -- each row is right
 pub record IsRows (b : Book) (k : ℕ) (m t : List ℕ) : Type 0 where
@@ -19,6 +24,7 @@ pub record IsRows (b : Book) (k : ℕ) (m t : List ℕ) : Type 0 where
   pub kept-rows : keptCount t ≡ keptAmong t (rows t)
   pub first-row : firstRow t ≡ headerNumbers
   pub numbers-used : numbersUsed t ≡ used (rows t)
+  pub of : IsOf k m t
   pub has-body : headerLength m ≤ length m
   -- each row says what the octets before its value say
   pub faithful : (r : ℕ) → r < rows t → Faithful m t r

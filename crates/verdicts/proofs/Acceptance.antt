@@ -9,14 +9,16 @@ use mathlib.Core.List.{List, [], _∷_}
 use Prim.Native.Nat.{ℕ, zero, suc, _<_}
 use native.Mathlib.Omega.{arith}
 use borrow.Author.Tests.{eq-eqb}
-use lib.Dec.{eqb}
+use lib.Dec.{eqb, ltb}
 use lib.ListN.{length, getD}
+use Rattle.rules.specs.Sizes.{headerNumbers}
 use Rattle.rules.specs.Types.{among}
 use Rattle.rules.specs.Listings.{Book}
 use Rattle.rules.specs.Sound.{sound}
-use Rattle.rules.specs.Verdicts.{accepted, refuses, first, judgeChecks, maskChecks, judgeVerdict, maskVerdict, judgeNumbers, maskNumbers}
+use Rattle.rules.specs.Values.{tableType, tableKind}
+use Rattle.rules.specs.Verdicts.{accepted, refuses, check, first, judgeChecks, maskChecks, judgeVerdict, maskVerdict, judgeNumbers, maskNumbers}
 use Rattle.rules.specs.Cleaned.{cleanChecks, cleanVerdict, cleanNumbers}
-use Rattle.rules.specs.Built.{buildChecks, buildVerdict, buildNumbers}
+use Rattle.rules.specs.Built.{buildChecks, headedChecks, buildVerdict, buildNumbers}
 use Rattle.rules.specs.declared.Verdict.{Verdict}
 use Rattle.rules.proofs.Checks.{AllPass, all-pass, first-pass, OwnCase}
 use Rattle.rules.proofs.Header.{judge-case, mask-case, clean-case, build-case}
@@ -96,7 +98,11 @@ module _ (b : Book) (fine : sound b ≡ true) (k : ℕ) (m : List ℕ) (room : �
   pub clean-codes : OneOf cleanNumbers (cleanVerdict b k m room)
   clean-codes = one-of (cleanChecks b k m room) cleanNumbers (clean-count b k m room) (λ j l. clean-case b k m room j l .1)
 
-pub build-codes : (b : Book) (k typ teid sequence : ℕ) (t values : List ℕ) (room : ℕ) → OneOf buildNumbers (buildVerdict b k typ teid sequence t values room)
-unfolding buildChecks
-build-codes b k typ teid sequence t values room =
-    one-of (buildChecks b k typ teid sequence t values room) buildNumbers refl (λ j l. build-case b k typ teid sequence t values room j l .1)
+-- a table too short for a header is 14, and of any other the checks that follow say
+pub build-codes : (b : Book) (teid sequence : ℕ) (t values : List ℕ) (room : ℕ) → OneOf buildNumbers (buildVerdict b teid sequence t values room)
+unfolding buildChecks headedChecks first check
+build-codes b teid sequence t values room = go (ltb (length t) headerNumbers) refl
+  where
+    go : (c : Bool) → ltb (length t) headerNumbers ≡ c → OneOf buildNumbers (buildVerdict b teid sequence t values room)
+    go true e = rw e (inr refl)
+    go false e = rw e (one-of (buildChecks b (tableKind t) (tableType t) teid sequence t values room) buildNumbers refl (λ j l. build-case b (tableKind t) (tableType t) teid sequence t values room j l .1))

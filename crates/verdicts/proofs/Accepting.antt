@@ -25,12 +25,12 @@ use Rattle.rules.specs.Sound.{sound}
 use Rattle.rules.specs.declared.Verdict.{Verdict}
 use Rattle.rules.proofs.Checks.{AllPass, all-pass, first-pass, check-off}
 use Rattle.rules.proofs.Header.{Passed, framed}
-use Rattle.tables.specs.IsTable.{IsTable}
+use Rattle.tables.specs.IsTable.{IsOf, IsTable}
 use Rattle.verdicts.specs.Missing.{ShortRow, Lacks}
 use Rattle.verdicts.specs.Accepts.{Accepts, Leaves}
 use Rattle.tables.proofs.Tests.{clash, not-true}
 use Rattle.verdicts.proofs.Laying.{laid-length, laid-in, laid-past, judge-framed, table-passes, enough-room, accepted-table}
-use Rattle.tables.proofs.Rowed.{table-length, Begins, laid-begins, count-of}
+use Rattle.tables.proofs.Rowed.{begins-of, laid-of, table-length, Begins, laid-begins, count-of}
 use Rattle.tables.proofs.Messages.{WalkedOf, walked-of}
 use Rattle.verdicts.proofs.Missing.{short-iff, missing-iff}
 use Rattle.tables.proofs.Soundness.{is-table}
@@ -83,8 +83,11 @@ module _ (b : Book) (k : ℕ) (m : List ℕ) where
 -- ---- tables and elements
 
 module _ (b : Book) (fine : sound b ≡ true) (k : ℕ) (m : List ℕ) where
-  pub table-iff : Passed b k m → (t : List ℕ) → IsTable b k m t ↔ ((es : List Item) × (taken b k m ≡ whole es) × Begins t es)
-  table-iff p t = (complete b fine k m t, λ x. is-table b fine k m t (x .0) (x .2) (x .1) (p .has-header) (p .listed))
+  pub table-iff : Passed b k m → (t : List ℕ) → IsTable b k m t ↔ (IsOf k m t × ((es : List Item) × (taken b k m ≡ whole es) × Begins t es))
+  table-iff p t = (
+    λ x. (x .right .of, complete b fine k m t x),
+    λ x. is-table b fine k m t (x .1 .0) (x .1 .2) (x .1 .1) (p .has-header) (p .listed) (x .0),
+  )
 
   -- where 1 to 8 pass and the message is whole, 9 does too
   pub passes : Passed b k m → (es : List Item) → taken b k m ≡ whole es → refuses (first (framingChecks b k m)) ≡ false
@@ -121,12 +124,12 @@ module _ (b : Book) (fine : sound b ≡ true) (k : ℕ) (m : List ℕ) where
         first-pass (judgeChecks b k m room)
         (pass-append (framingChecks b k m) (tableChecks b k m room) (pass-append (headerChecks b k m) (cutCheck (taken b k m) ∷ []) (pass-header b k m p) (cuts, tt)) (fits, (s′, (d′, tt))))
 
-    pub accepts : (room : ℕ) → judgeVerdict b k m room ≡ accepted → Accepts b k m t
+    pub accepts : IsOf k m t → (room : ℕ) → judgeVerdict b k m room ≡ accepted → Accepts b k m t
     unfolding AllPass
-    accepts room a =
+    accepts of room a =
         let z = table-passes b k m room (rw a) in record {
           header = p;
-          table = is-table b fine k m t es ok e (p .has-header) (p .listed);
+          table = is-table b fine k m t es ok e (p .has-header) (p .listed) of;
           none-short = λ r x. clash (refuses (shortVerdict es)) (short-is .1 (r, x)) (rw items-are at (z .1 .0));
           none-missing = λ q j x. clash (refuses (lackVerdict b k (bodyLevel b m) es)) (lack-is .1 (q, j, x)) (rw items-are at (z .1 .1 .0));
         }
@@ -144,23 +147,23 @@ module _ (b : Book) (fine : sound b ≡ true) (k : ℕ) (m : List ℕ) where
         let f = framed b k m (judge-framed b k m (length lent) ok) in
         let es = f .1 .0 in
         let i : items b k m ≡ f .1 .0 = ap itemsIn (f .1 .1) in
-        let is : left ≡ laid (tableOf (f .1 .0)) lent = sym (a .1) ∙ accepted-table b k m lent ok ∙ ap (λ (is : List Item). laid (tableOf is) lent) i in
-        let room : length (tableOf (f .1 .0)) ≤ length lent = rw (table-length (f .1 .0)) (rw i at (enough-room b k m (length lent) ok)) in
-        let starts : Begins left (f .1 .0) = rw is (laid-begins (f .1 .0) lent) in record {
-          accepts = accepts left es (f .1 .1) starts (f .0) (length lent) (a .0);
-          size = ap length is ∙ laid-length (tableOf es) lent room;
-          stays = λ j l. ap (λ (xs : List ℕ). getD xs j 0) is ∙ laid-past (tableOf es) lent j (omega (arith, l, count-of left es starts, table-length es));
+        let is : left ≡ laid (tableOf (messageType m) k (f .1 .0)) lent = sym (a .1) ∙ accepted-table b k m lent ok ∙ ap (λ (is : List Item). laid (tableOf (messageType m) k is) lent) i in
+        let room : length (tableOf (messageType m) k (f .1 .0)) ≤ length lent = rw (table-length (messageType m) k (f .1 .0)) (rw i at (enough-room b k m (length lent) ok)) in
+        let starts : Begins left (f .1 .0) = rw is (laid-begins (messageType m) k (f .1 .0) lent) in record {
+          accepts = accepts left es (f .1 .1) starts (f .0) (rw is (laid-of k m es lent)) (length lent) (a .0);
+          size = ap length is ∙ laid-length (tableOf (messageType m) k es) lent room;
+          stays = λ j l. ap (λ (xs : List ℕ). getD xs j 0) is ∙ laid-past (tableOf (messageType m) k es) lent j (omega (arith, l, count-of left es starts, table-length (messageType m) k es));
         }
 
     -- what is left is the elements' table laid over what was lent
-    laid-over : (es : List Item) → Begins left es → Leaves b k m lent left → left ≡ laid (tableOf es) lent
+    laid-over : (es : List Item) → Begins left es → Leaves b k m lent left → left ≡ laid (tableOf (messageType m) k es) lent
     laid-over es s x =
-        ext-getD 0 left (laid (tableOf es) lent) (x .size ∙ sym (laid-length (tableOf es) lent (omega (arith, s .room, x .size, table-length es))))
-        (λ i l. go i (decLt i (length (tableOf es))))
+        ext-getD 0 left (laid (tableOf (messageType m) k es) lent) (x .size ∙ sym (laid-length (tableOf (messageType m) k es) lent (omega (arith, s .room, x .size, table-length (messageType m) k es))))
+        (λ i l. go i (decLt i (length (tableOf (messageType m) k es))))
       where
-        go : (i : ℕ) → Dec (i < length (tableOf es)) → getD left i 0 ≡ getD (laid (tableOf es) lent) i 0
-        go i (yes h) = s .same i (omega (arith, h, table-length es)) ∙ sym (laid-in (tableOf es) lent i h)
-        go i (no h) = x .stays i (omega (arith, count-of left es s, table-length es)) ∙ sym (laid-past (tableOf es) lent i (omega arith))
+        go : (i : ℕ) → Dec (i < length (tableOf (messageType m) k es)) → getD left i 0 ≡ getD (laid (tableOf (messageType m) k es) lent) i 0
+        go i (yes h) = begins-of k m left es (x .accepts .table .right .of) s i (omega (arith, h, table-length (messageType m) k es)) ∙ sym (laid-in (tableOf (messageType m) k es) lent i h)
+        go i (no h) = x .stays i (omega (arith, count-of left es s, table-length (messageType m) k es)) ∙ sym (laid-past (tableOf (messageType m) k es) lent i (omega arith))
 
     lays : Leaves b k m lent left → Left
     lays x =
@@ -170,7 +173,7 @@ module _ (b : Book) (fine : sound b ≡ true) (k : ℕ) (m : List ℕ) where
         = accept left es (c .1) (c .2) (x .accepts .header) (length lent) (omega (arith, c .2 .room, x .size)) (x .accepts .none-short) (x .accepts .none-missing) in
         let ok : refuses (judgeVerdict b k m (length lent)) ≡ false = rw v in
         let i : items b k m ≡ c .0 = ap itemsIn (c .1) in
-        (v, accepted-table b k m lent ok ∙ ap (λ (is : List Item). laid (tableOf is) lent) i ∙ sym (laid-over es (c .2) x))
+        (v, accepted-table b k m lent ok ∙ ap (λ (is : List Item). laid (tableOf (messageType m) k is) lent) i ∙ sym (laid-over es (c .2) x))
 
     pub accepts-iff : Left ↔ Leaves b k m lent left
     accepts-iff = (leaves, lays)

@@ -151,13 +151,13 @@ module _ (b : Book) (fine : sound b ≡ true) (k : ℕ) (m : List ℕ) where
       → (refuses (shortVerdict (items b k m)) ≡ true) ↔ ((r : ℕ) × ShortRow b k (bodyLevel b m) (numbers b k m) r)
   short-words e =
       let f = framed b k m e in let es = f .1 .0 in let w = f .1 .1 in
-      rw w (short-iff b fine k m (tableOf es) es (own-begins es) (walked-of b k m es w) (f .0 .listed))
+      rw w (short-iff b fine k m (tableOf (messageType m) k es) es (own-begins (messageType m) k es) (walked-of b k m es w) (f .0 .listed))
 
   lack-words : refuses (first (framingChecks b k m)) ≡ false
       → (refuses (lackVerdict b k (bodyLevel b m) (items b k m)) ≡ true) ↔ ((p : ℕ) × (j : ℕ) × Lacks b k (bodyLevel b m) (numbers b k m) p j)
   lack-words e =
       let f = framed b k m e in let es = f .1 .0 in let w = f .1 .1 in
-      rw w (missing-iff b fine k m (tableOf es) es (own-begins es) (walked-of b k m es w) (f .0 .listed))
+      rw w (missing-iff b fine k m (tableOf (messageType m) k es) es (own-begins (messageType m) k es) (walked-of b k m es w) (f .0 .listed))
 
   last-step : (room i : ℕ) → i < 3 → Step (judgeChecks b k m room) (judgeConditions b k m room) (suc (suc (suc (suc (suc (suc (suc (suc (suc i)))))))))
   unfolding judgeChecks framingChecks headerChecks
@@ -245,10 +245,10 @@ module _ (b : Book) (fine : sound b ≡ true) (k : ℕ) (m : List ℕ) (room : �
   last-says zero l o = says-own _ (refused 10 0) (o .applies)
   last-says (suc zero) l o =
       let f = framed b k m (nine-pass b k m (tableChecks b k m room) (λ i h. o .none-before i (omega arith))) in let es = f .1 .0 in let w = f .1 .1 in
-      rw w (short-first b fine k m (tableOf es) es (own-begins es) (walked-of b k m es w) (f .0 .listed) (rw w at (o .applies)))
+      rw w (short-first b fine k m (tableOf (messageType m) k es) es (own-begins (messageType m) k es) (walked-of b k m es w) (f .0 .listed) (rw w at (o .applies)))
   last-says (suc (suc zero)) l o =
       let f = framed b k m (nine-pass b k m (tableChecks b k m room) (λ i h. o .none-before i (omega arith))) in let es = f .1 .0 in let w = f .1 .1 in
-      rw w (missing-first b fine k m (tableOf es) es (own-begins es) (walked-of b k m es w) (f .0 .listed) (rw w at (o .applies)))
+      rw w (missing-first b fine k m (tableOf (messageType m) k es) es (own-begins (messageType m) k es) (walked-of b k m es w) (f .0 .listed) (rw w at (o .applies)))
   last-says (suc (suc (suc i))) l o = absurd (omega arith)
 
   judge-saying : (j : ℕ) → j < 12 → Says (judgeChecks b k m room) (judgeWords b k m) j

@@ -2,7 +2,7 @@
 -- behind, and no row is left after it, since none begins behind the message's end. Assumes nothing.
 --     complete   IsTable b k m t gives elements es with taken b k m ≡ whole es, and their table stands at the start of t
 --     one-table  two such tables have the same numbers, as far as they are used
-use mathlib.Core.Path.{_≡_, sym, ap, _∙_}
+use mathlib.Core.Path.{_≡_, refl, sym, ap, _∙_}
 use mathlib.Core.Bool.{true}
 use mathlib.Core.List.{List}
 use Prim.Native.Nat.{ℕ, zero, suc, _+_, _-_, _*_, _≤_, _/_, _%_, _<_}
@@ -10,17 +10,17 @@ use native.Mathlib.Omega.{arith}
 use native.Mathlib.Decide.{decLt}
 use lib.ListN.{length-drop, length, drop, getD}
 use Rattle.rules.specs.Sizes.{rowNumbers, used}
-use Rattle.rules.specs.Framing.{elementHeader, headerLength}
+use Rattle.rules.specs.Framing.{messageType, elementHeader, headerLength}
 use Rattle.rules.specs.Listings.{Book}
 use Rattle.rules.specs.Standing.{Item, fresh}
 use Rattle.rules.specs.Taking.{whole, taken, bodyLevel}
 use Rattle.rules.specs.Table.{keptRows, header, tableOf}
 use Rattle.rules.specs.Sound.{sound}
-use Rattle.rules.specs.Values.{cell}
+use Rattle.rules.specs.Values.{tableType, tableKind, cell}
 use Rattle.rules.proofs.Mets.{met-whole}
 use Rattle.rules.proofs.Rows.{quarter, body-met}
 use Rattle.rules.proofs.Walked.{met-walked}
-use Rattle.tables.proofs.Rowed.{kept-from, Begins, own-begins, row-of, count-of}
+use Rattle.tables.proofs.Rowed.{begins-of, kept-from, Begins, own-begins, row-of, count-of}
 use Rattle.tables.specs.Words.{rows, keptAmong, CoversTo}
 use Rattle.tables.specs.IsTable.{IsRows, IsTable}
 use Rattle.tables.proofs.Trees.{start-is, in-message}
@@ -62,19 +62,21 @@ module _ (b : Book) (fine : sound b ≡ true) (k : ℕ) (m t : List ℕ) (w : Is
       let y : 0 + keptRows (body-built .es) ≡ keptRows (body-built .es) = omega arith in
       rw (z, y) at (kept-from t 0 (body-built .es) (λ j l. body-built .rows-are .same j l 5 (omega arith)))
 
-  cell-same : (r c : ℕ) → r < length (body-built .es) → c < rowNumbers → cell t r c ≡ cell (tableOf (body-built .es)) r c
+  cell-same : (r c : ℕ) → r < length (body-built .es) → c < rowNumbers → cell t r c ≡ cell (tableOf (tableType t) (tableKind t) (body-built .es)) r c
   cell-same r c l h =
       let z : 0 + r ≡ r = omega arith in
-      (rw z at (body-built .rows-are .same r l c h)) ∙ sym (row-of (tableOf (body-built .es)) (body-built .es) (own-begins (body-built .es)) r c l h)
+      (rw z at (body-built .rows-are .same r l c h)) ∙ sym (row-of (tableOf (tableType t) (tableKind t) (body-built .es)) (body-built .es) (own-begins (tableType t) (tableKind t) (body-built .es)) r c l h)
 
-  number-same : (i : ℕ) → i < used (length (body-built .es)) → getD t i 0 ≡ getD (tableOf (body-built .es)) i 0
+  number-same : (i : ℕ) → i < used (length (body-built .es)) → getD t i 0 ≡ getD (tableOf (tableType t) (tableKind t) (body-built .es)) i 0
   unfolding tableOf header
   number-same zero l = sym all-rows
   number-same (suc zero) l = x .kept-rows ∙ ap (keptAmong t) (sym all-rows) ∙ kept-same
   number-same (suc (suc zero)) l = x .first-row
   number-same (suc (suc (suc zero))) l = x .numbers-used ∙ ap used (sym all-rows)
-  number-same (suc (suc (suc (suc i)))) l =
-      let e : suc (suc (suc (suc i))) ≡ used (i / 6) + i % 6 = omega arith in
+  number-same (suc (suc (suc (suc zero)))) l = refl
+  number-same (suc (suc (suc (suc (suc zero))))) l = refl
+  number-same (suc (suc (suc (suc (suc (suc i)))))) l =
+      let e : suc (suc (suc (suc (suc (suc i))))) ≡ used (i / 6) + i % 6 = omega arith in
       rw e (cell-same (i / 6) (i % 6) (omega (arith, l)) (omega arith))
 
   pub complete : (es : List Item) × (taken b k m ≡ whole es) × Begins t es
@@ -89,8 +91,10 @@ one-table b fine k m t u x y =
     let e : whole (c .0) ≡ whole (d .0) = sym (c .1) ∙ d .1 in
     let z : c .0 ≡ d .0 = cc in
     let f : Begins u (c .0) = rw z (d .2) in
-    let n : rows t ≡ length (c .0) = count-of t (c .0) (c .2) in
-    (count-of t (c .0) (c .2) ∙ sym (count-of u (c .0) f), λ i l. c .2 .same i (rw n at l) ∙ sym (f .same i (rw n at l)))
+    let n : rows t ≡ length (c .0) = count-of t (c .0) (c .2) in (
+      count-of t (c .0) (c .2) ∙ sym (count-of u (c .0) f),
+      λ i l. begins-of k m t (c .0) (x .right .of) (c .2) i (rw n at l) ∙ sym (begins-of k m u (c .0) (y .right .of) f i (rw n at l)),
+    )
 
 -- each row has its own header in the body
 pub few : (b : Book) → sound b ≡ true → (k : ℕ) (m t : List ℕ) → IsTable b k m t → headerLength m + elementHeader * rows t ≤ length m

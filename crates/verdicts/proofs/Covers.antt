@@ -8,6 +8,7 @@ use native.Mathlib.Omega.{arith}
 use borrow.Author.Tests.{eqb-true, eqb-false, eq-eqb, ne-eqb, leb-true, le-leb, ltb-true, lt-ltb}
 use lib.Dec.{eqb, leb, ltb}
 use lib.ListN.{length}
+use Rattle.rules.specs.Framing.{messageType}
 use Rattle.rules.specs.Types.{coversWhole, coversRest}
 use Rattle.rules.specs.Listings.{Book}
 use Rattle.rules.specs.Standing.{Item, kept, unexpected, repeated, short, valuePlace, valueEnd}
@@ -22,7 +23,7 @@ use Rattle.rules.proofs.Lines.{and-left, and-right}
 use Rattle.tables.specs.IsTable.{IsTable}
 use Rattle.verdicts.specs.Covers.{ValueOver, Covers, aside, secret, rest}
 use Rattle.tables.proofs.Tests.{un-not, and-true, or-either, or-left, or-right}
-use Rattle.tables.proofs.Rowed.{Begins, own-begins, row-of, count-of}
+use Rattle.tables.proofs.Rowed.{own-of, Begins, own-begins, row-of, count-of}
 use Rattle.tables.proofs.Soundness.{is-table}
 use Rattle.verdicts.proofs.Completeness.{complete}
 use Rattle.verdicts.proofs.Accepting.{passes}
@@ -129,9 +130,9 @@ module _ (b : Book) (fine : sound b ≡ true) (k : ℕ) (m : List ℕ) (j : ℕ)
       let tests = isAside (i .stand) || coversWhole (i .typ) || coversButFirst i j in (
         f .0,
         (
-          tableOf es,
-          is-table b fine k m (tableOf es) es (own-begins es) (f .1 .1) (f .0 .has-header) (f .0 .listed),
-          (c .0, value-over (tableOf es) es (own-begins es) (c .0) j (c .1) (and-left (isValueOctet i j) tests (c .2)), row-covers (tableOf es) es (own-begins es) (c .0) j (c .1) (and-right (isValueOctet i j) tests (c .2))),
+          tableOf (messageType m) k es,
+          is-table b fine k m (tableOf (messageType m) k es) es (own-begins (messageType m) k es) (f .1 .1) (f .0 .has-header) (f .0 .listed) (own-of k m es),
+          (c .0, value-over (tableOf (messageType m) k es) es (own-begins (messageType m) k es) (c .0) j (c .1) (and-left (isValueOctet i j) tests (c .2)), row-covers (tableOf (messageType m) k es) es (own-begins (messageType m) k es) (c .0) j (c .1) (and-right (isValueOctet i j) tests (c .2))),
         ),
       )
 

@@ -8,7 +8,7 @@ use Prim.Native.Nat.{ℕ}
 use native.Mathlib.Omega.{arith}
 use lib.ListN.{drop}
 use Rattle.rules.specs.Listings.{Book}
-use Rattle.rules.specs.Framing.{headerLength}
+use Rattle.rules.specs.Framing.{messageType, headerLength}
 use Rattle.rules.specs.Standing.{Item}
 use Rattle.rules.specs.Taking.{Out, cut, whole, taken, bodyLevel}
 use Rattle.rules.specs.Table.{tableOf}
@@ -20,7 +20,7 @@ use Rattle.rules.proofs.Mets.{cut-met}
 use Rattle.tables.specs.IsTable.{IsTable}
 use Rattle.tables.proofs.Soundness.{is-table}
 use Rattle.verdicts.specs.Conditions.{CutIn, tableConditions}
-use Rattle.tables.proofs.Rowed.{own-begins}
+use Rattle.tables.proofs.Rowed.{own-of, own-begins}
 use Rattle.verdicts.proofs.Cases.{judge-words, judge-says}
 use Rattle.verdicts.specs.IsCut.{IsCut}
 use Rattle.verdicts.proofs.CutRebuilding.{is-cut}
@@ -39,7 +39,7 @@ module _ (b : Book) (fine : sound b ≡ true) (k : ℕ) (m : List ℕ) where
   -- where 1 to 8 do not apply, the rows before a cut are there exactly where the body is cut
   pub cut-iff : Passed b k m → (q : ℕ) → CutIn b k m q ↔ ((t : List ℕ) × IsCut b k m t q)
   cut-iff p q = (
-    λ d. let r = part-of d 0 in (tableOf (r .0), cut-rows b fine k m (tableOf (r .0)) (r .0) (own-begins (r .0)) q (r .1) (p .has-header) (p .listed)),
+    λ d. let r = part-of d 0 in (tableOf (messageType m) k (r .0), cut-rows b fine k m (tableOf (messageType m) k (r .0)) (r .0) (own-begins (messageType m) k (r .0)) q (r .1) (p .has-header) (p .listed) (own-of k m (r .0))),
     λ x. is-cut b fine k m (x .0) q (x .1),
   )
 
@@ -49,7 +49,7 @@ module _ (b : Book) (fine : sound b ≡ true) (k : ℕ) (m : List ℕ) where
   table-or-cut p = go (taken b k m) refl
     where
       go : (o : Out (List Item)) → taken b k m ≡ o → ((t : List ℕ) × IsTable b k m t) ⊎ ((q : ℕ) × ((t : List ℕ) × IsCut b k m t q))
-      go (whole es) e = inl (tableOf es, is-table b fine k m (tableOf es) es (own-begins es) e (p .has-header) (p .listed))
+      go (whole es) e = inl (tableOf (messageType m) k es, is-table b fine k m (tableOf (messageType m) k es) es (own-begins (messageType m) k es) e (p .has-header) (p .listed) (own-of k m es))
       go (cut q is) e = inr (q, cut-iff p q .0 (cut-met b k (bodyLevel b m) (headerLength m) (drop (headerLength m) m) q is e))
 
   pub never-both : (t u : List ℕ) (q : ℕ) → IsTable b k m t → IsCut b k m u q → ⊥

@@ -27,6 +27,7 @@ use Rattle.tables.proofs.Faithful.{Sub, sub-drop, sub-take}
 use Rattle.verdicts.proofs.Rebuilding.{head-whole}
 use Rattle.verdicts.proofs.Parts.{Part, here, later, within, behind, leftOf, part-walked, part-before, cover-to, cover-inside-to}
 use Rattle.tables.proofs.RightRows.{Same, same, count, back, over, is-group, is-entered, is-rows}
+use Rattle.tables.specs.IsTable.{IsOf}
 use Rattle.tables.proofs.Rowed.{Begins, inside-others}
 use Rattle.tables.proofs.Messages.{WalkedOf, all-stand}
 
@@ -161,9 +162,9 @@ module _ (b : Book) (fine : sound b ≡ true) (k : ℕ) (m t : List ℕ) (es : L
     closed = λ y l. absurd (omega arith);
   })
 
-  pub cut-rows : IsCut b k m t q
-  cut-rows = record {
-    right = is-rows b fine k m t es ok walked body listed;
+  pub cut-rows : IsOf k m t → IsCut b k m t q
+  cut-rows of = record {
+    right = is-rows b fine k m t es ok walked body listed of;
     before = λ r l. let s = same b fine k m t es ok walked body listed r l in omega (arith, every-at (λ i. i .place < q) es (part-before d) r (s .there), s .start);
     covers = covers;
     cut-here = (cut-level .0, cut-level .1);

@@ -7,7 +7,7 @@ use mathlib.Core.List.{List}
 use Prim.Native.Nat.{ℕ}
 use native.Mathlib.Omega.{arith}
 use lib.ListN.{drop}
-use Rattle.rules.specs.Framing.{headerLength}
+use Rattle.rules.specs.Framing.{messageType, headerLength}
 use Rattle.rules.specs.Listings.{Book}
 use Rattle.rules.specs.Standing.{Item}
 use Rattle.rules.specs.Taking.{Out, cut, whole, taken, bodyLevel}
@@ -18,7 +18,7 @@ use Rattle.rules.proofs.Header.{Passed}
 use Rattle.rules.proofs.Mets.{cut-met, met-cut}
 use Rattle.verdicts.specs.Conditions.{CutIn, tableConditions}
 use Rattle.tables.specs.IsTable.{IsTable}
-use Rattle.tables.proofs.Rowed.{own-begins}
+use Rattle.tables.proofs.Rowed.{own-of, own-begins}
 use Rattle.verdicts.proofs.Cases.{judge-words}
 use Rattle.verdicts.proofs.Passing.{passed-of, passed-none}
 use Rattle.tables.proofs.Soundness.{is-table}
@@ -38,7 +38,7 @@ module _ (b : Book) (fine : sound b ≡ true) (k : ℕ) (m : List ℕ) where
     where
       go : (o : Out (List Item)) → taken b k m ≡ o → (q : ℕ) × CutIn b k m q
       go (cut q is) e = (q, cut-met b k (bodyLevel b m) (headerLength m) (drop (headerLength m) m) q is e)
-      go (whole es) e = absurd (none (tableOf es) (is-table b fine k m (tableOf es) es (own-begins es) e (p .has-header) (p .listed)))
+      go (whole es) e = absurd (none (tableOf (messageType m) k es) (is-table b fine k m (tableOf (messageType m) k es) es (own-begins (messageType m) k es) e (p .has-header) (p .listed) (own-of k m es)))
 
   pub cut-in : (q : ℕ) → CutIn b k m q → (is : List Item) × (taken b k m ≡ cut q is)
   unfolding taken

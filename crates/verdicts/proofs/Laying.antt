@@ -10,6 +10,7 @@ use borrow.Author.Tests.{ltb-false}
 use lib.Dec.{ltb}
 use lib.ListN.{length, take, drop, getD, length-append, length-drop, List·getD-append}
 use lib.Seq.{take-append-seam, drop-append-seam, getD-drop, getD-append-add}
+use Rattle.rules.specs.Framing.{messageType}
 use Rattle.rules.specs.Sizes.{used}
 use Rattle.rules.specs.Listings.{Book}
 use Rattle.rules.specs.Table.{tableOf, laid}
@@ -53,6 +54,6 @@ module _ (b : Book) (k : ℕ) (m : List ℕ) where
   enough-room room e =
       ltb-false room (used (length (items b k m))) (sym (check-off (ltb room (used (length (items b k m)))) (refused 10 0) refl) ∙ table-passes room e .0)
 
-  pub accepted-table : (t : List ℕ) → refuses (judgeVerdict b k m (length t)) ≡ false → judgeTable b k m t ≡ laid (tableOf (items b k m)) t
+  pub accepted-table : (t : List ℕ) → refuses (judgeVerdict b k m (length t)) ≡ false → judgeTable b k m t ≡ laid (tableOf (messageType m) k (items b k m)) t
   unfolding judgeTable
   accepted-table t e = rw e

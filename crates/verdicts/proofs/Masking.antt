@@ -9,6 +9,7 @@ use native.Mathlib.Omega.{arith}
 use native.Mathlib.Decide.{decLt}
 use borrow.Author.Tests.{lt-ltb, le-ltb}
 use lib.ListN.{length}
+use Rattle.rules.specs.Framing.{messageType}
 use Rattle.rules.specs.Listings.{Book}
 use Rattle.rules.specs.Verdicts.{judgeVerdict, judgeChecks, tableChecks, refused, refuses, accepted, check, first, framingChecks, copyCheck, maskChecks, maskVerdict}
 use Rattle.rules.specs.Sound.{sound}
@@ -18,7 +19,7 @@ use Rattle.rules.specs.Table.{tableOf}
 use Rattle.rules.proofs.Header.{Passed, framed}
 use Rattle.tables.specs.IsTable.{IsTable}
 use Rattle.tables.proofs.Tests.{true-or}
-use Rattle.tables.proofs.Rowed.{own-begins}
+use Rattle.tables.proofs.Rowed.{own-of, own-begins}
 use Rattle.tables.proofs.Soundness.{is-table}
 use Rattle.verdicts.specs.Conditions.{copyConditions}
 use Rattle.verdicts.proofs.Cases.{mask-words}
@@ -83,5 +84,5 @@ module _ (b : Book) (fine : sound b ≡ true) (k : ℕ) (m : List ℕ) (room roo
           let f = framed b k m e in
           let p = f .0 in
           let es = f .1 .0 in
-          let x = is-table b fine k m (tableOf es) es (own-begins es) (f .1 .1) (p .has-header) (p .listed) in
-          absurd (above (outcome b fine k m p (tableOf es) x room) u d)
+          let x = is-table b fine k m (tableOf (messageType m) k es) es (own-begins (messageType m) k es) (f .1 .1) (p .has-header) (p .listed) (own-of k m es) in
+          absurd (above (outcome b fine k m p (tableOf (messageType m) k es) x room) u d)

@@ -19,7 +19,7 @@ use Rattle.rules.proofs.Header.{Passed}
 use Rattle.rules.proofs.Mets.{cut-met}
 use Rattle.tables.specs.IsTable.{IsTable}
 use Rattle.tables.proofs.Tests.{clash, not-true, not-false}
-use Rattle.tables.proofs.Rowed.{own-begins}
+use Rattle.tables.proofs.Rowed.{own-of, own-begins}
 use Rattle.tables.proofs.Soundness.{is-table}
 use Rattle.verdicts.specs.Conditions.{framingConditions}
 use Rattle.verdicts.proofs.Acceptance.{NoneHolds}
@@ -80,7 +80,7 @@ module _ (b : Book) (fine : sound b ≡ true) (k : ℕ) (m : List ℕ) (cs : Lis
 
       go : (o : Out (List Item)) → taken b k m ≡ o → Passed b k m × ((t : List ℕ) × IsTable b k m t)
       go (cut q is) e = absurd (none 8 (omega arith) (q, cut-met b k (bodyLevel b m) (headerLength m) (drop (headerLength m) m) q is e))
-      go (whole is) e = (p, (tableOf is, is-table b fine k m (tableOf is) is (own-begins is) e (p .has-header) (p .listed)))
+      go (whole is) e = (p, (tableOf (messageType m) k is, is-table b fine k m (tableOf (messageType m) k is) is (own-begins (messageType m) k is) e (p .has-header) (p .listed) (own-of k m is)))
 
 pub passed-iff : (b : Book) → sound b ≡ true → (k : ℕ) (m : List ℕ) → Passed b k m ↔ NoneHolds (framingConditions b k m) 8
 passed-iff b fine k m = (passed-none b fine k m [], passed-of b fine k m [])

@@ -31,7 +31,7 @@ module _ (b : Book) (k : ℕ) (m : List ℕ) where
 
   -- the numbers of the rows
   abbrev pub numbers : List ℕ
-  numbers = tableOf (items b k m)
+  numbers = tableOf (messageType m) k (items b k m)
 
   -- 1 to 9
   abbrev pub framingConditions : List (Type 0)

@@ -7,6 +7,7 @@ use native.Mathlib.Omega.{arith}
 use borrow.Author.Tests.{ltb-false}
 use lib.ListN.{length}
 use Rattle.rules.specs.Sizes.{rowNumbers}
+use Rattle.rules.specs.Framing.{messageType}
 use Rattle.rules.specs.Listings.{book}
 use Rattle.rules.specs.Table.{tableOf, laid}
 use Rattle.rules.specs.Verdicts.{refuses, items}
@@ -24,13 +25,13 @@ use Rattle.octets.proofs.Tables.{fits}
 use Rattle.wokshimmer.specs.Exports.{Stored}
 
 module _ (k : ℕ) (m table : List ℕ) {rows rows′ : List ℕ} {d : Decision} (x : Decided k m rows (tableRoom table) d rows′) (held : rowNumbers * d .rows ≤ length rows) where
-  on-acceptance : Ready k m rows′ (tableRoom table) d → tableStored rows′ (d .rows) (d .kept) table ≡ laid (octetsOf (tableOf (items book k m))) table
+  on-acceptance : Ready k m rows′ (tableRoom table) d → tableStored rows′ (d .rows) (d .kept) (d .typ) (d .kind) table ≡ laid (octetsOf (tableOf (messageType m) k (items book k m))) table
   unfolding tableStored
   on-acceptance r =
-      rw (fits rows′ (d .rows) (d .kept) table (r .few) (r .kept-few) (r .there) (omega (arith, r .fits)))
+      rw (fits rows′ (d .rows) (d .kept) (d .typ) (d .kind) table (r .few) (r .kept-few) (r .there) (omega (arith, r .fits)))
       (ap (λ (q : List ℕ). laid (octetsOf q) table) (r .numbers))
 
-  table-case : (c : Bool) → refuses (d .verdict) ≡ c → cond c table (tableStored rows′ (d .rows) (d .kept) table) ≡ judgeOctets book k m table
+  table-case : (c : Bool) → refuses (d .verdict) ≡ c → cond c table (tableStored rows′ (d .rows) (d .kept) (d .typ) (d .kind) table) ≡ judgeOctets book k m table
   unfolding judgeOctets
   table-case true e = rw (← verdict-is k m x, e)
   table-case false e =
@@ -63,9 +64,9 @@ cleaned-octets {answer = answer} x f = record {
 pub length-most : {k : ℕ} {m clean clean′ : List ℕ} {s : Sent} → Cleans k m clean s clean′ → s .length ≤ 65535
 length-most {k} {m} {clean} x = omega (arith, x .length-is, clean-most book book-sound k m (length clean))
 
-module _ (table : List ℕ) {k typ teid sequence : ℕ} {values room : List ℕ} {s : Sent} {room′ : List ℕ} (x : Builds k typ teid sequence (numbersIn table) values room s room′) where
+module _ (table : List ℕ) {teid sequence : ℕ} {values room : List ℕ} {s : Sent} {room′ : List ℕ} (x : Builds teid sequence (numbersIn table) values room s room′) where
   pub built-octets : {answer answer′ : List ℕ} → answer′ ≡ answerLaid (s .verdict) (s .length) answer
-      → BuiltOctets k typ teid sequence table values room answer (s .verdict .code) room′ answer′
+      → BuiltOctets teid sequence table values room answer (s .verdict .code) room′ answer′
   built-octets {answer} f = record {
     answers = ap (λ (u : Verdict). u .code) (x .verdict-is);
     room-left = x .room-left;
@@ -73,4 +74,4 @@ module _ (table : List ℕ) {k typ teid sequence : ℕ} {values room : List ℕ}
   }
 
   pub built-most : s .length ≤ 65535
-  built-most = omega (arith, x .length-is, build-most book book-sound k typ teid sequence (numbersIn table) values (length room))
+  built-most = omega (arith, x .length-is, build-most book book-sound teid sequence (numbersIn table) values (length room))

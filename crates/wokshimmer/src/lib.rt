@@ -11,7 +11,7 @@ fn store(d: Decision, rows: &[u16], table: &mut [u8], five: &mut [u8]) -> u16
     let code = v.code;
     octets::put_five(v, five);
     if code == 0 {
-        octets::put_table(rows, d.rows, d.kept, table);
+        octets::put_table(rows, d.rows, d.kept, d.typ, d.kind, table);
     }
     code
 }
@@ -65,11 +65,9 @@ pub extern "C" fn wok_clean(kind: u32, message: &[u8], clean: &mut [u8], answer:
 }
 
 // The verdict's code; its five numbers and the length of the message go to `answer`, and if nothing refuses the message to `room`. The table is lent as
-// octets, two a number.
+// octets, two a number, and says kind and message type.
 #[no_mangle]
 pub extern "C" fn wok_build(
-    kind: u32,
-    typ: u32,
     teid: u32,
     sequence: u32,
     table: &[u8],
@@ -77,9 +75,9 @@ pub extern "C" fn wok_build(
     room: &mut [u8],
     answer: &mut [u8],
 ) -> u16
-    ensures { λ r. ⌜ BuiltOctets kind typ teid sequence (now (table .entry)) (now (values .entry)) (now (room .entry)) (now (answer .entry)) r (now (room .exit)) (now (answer .exit)) ⌝ }
+    ensures { λ r. ⌜ BuiltOctets teid sequence (now (table .entry)) (now (values .entry)) (now (room .entry)) (now (answer .entry)) r (now (room .exit)) (now (answer .exit)) ⌝ }
 {
-    let s = building::build_octets(kind, typ, teid, sequence, table, values, room);
+    let s = building::build_octets(teid, sequence, table, values, room);
     let v = s.verdict;
     let n = s.length;
     octets::put_answer(v, n as u16, answer);

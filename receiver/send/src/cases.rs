@@ -5,7 +5,7 @@ use second::generate::{Case, Generator};
 const SEED: u64 = 2123;
 const LONGEST: usize = 5_000;
 const LONGEST_MESSAGE: usize = 4_096;
-const TABLE_OCTETS: usize = 2 * (4 + 6 * 1_022);
+const TABLE_OCTETS: usize = 2 * (6 + 6 * 1_022);
 const FIVE_OCTETS: usize = 10;
 const ANSWER_OCTETS: usize = 12;
 const CODES: usize = 14;

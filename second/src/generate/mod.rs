@@ -1,5 +1,5 @@
 //! A seeded generator of messages made from the listings, good and damaged, of
-//! the buffers lent with them, and of what a builder is given.
+//! the buffers lent with them, of lookups, and of what a builder is given.
 
 mod builds;
 mod compose;
@@ -8,11 +8,14 @@ mod draft;
 mod figures;
 mod lend;
 mod limits;
+mod lookups;
 mod random;
+mod tables;
 
 pub use builds::{builds, Build, Rooms};
 pub use figures::figures;
-pub use lend::{hostile_tables, Ask, Buffers, Lookup, ANSWERS};
+pub use lend::{Buffers, ANSWERS};
+pub use lookups::{hostile_tables, Ask, Lookup};
 pub use random::Random;
 
 use crate::DOCUMENT;

@@ -10,10 +10,8 @@ use second::{build, build_octets, Answer, Head, Verdict, DOCUMENT};
 const UNTOUCHED: u8 = 0xEE;
 const D: &str = "40 01 00 09 00 00 01 00 03 00 01 00 07";
 const G: &str = "48 42 00 11 00 00 00 01 00 00 02 00 5D 00 05 00 49 00 01 00 05";
-const G_TABLE: [u16; 16] = [2, 2, 4, 16, 0, 93, 0, 16, 5, 0, 1, 73, 0, 20, 1, 0];
+const G_TABLE: [u16; 18] = [2, 2, 6, 18, 66, 1, 0, 93, 0, 16, 5, 0, 1, 73, 0, 20, 1, 0];
 const OF_G: Head = Head {
-    kind: 1,
-    typ: 66,
     teid: 1,
     sequence: 2,
 };
@@ -48,27 +46,26 @@ fn code(head: Head, table: &[u16], values: &[u8]) -> u16 {
 }
 
 /// A table of these rows with its header.
-fn table_of(rows: &[[u16; 6]]) -> Vec<u16> {
+fn table_of(typ: u16, kind: u16, rows: &[[u16; 6]]) -> Vec<u16> {
     let count = rows.len() as u16;
     let kept = rows.iter().filter(|row| row[5] == 0).count() as u16;
-    [&[count, kept, 4, 4 + 6 * count][..], rows.as_flattened()].concat()
+    let header = [count, kept, 6, 6 + 6 * count, typ, kind];
+    [&header[..], rows.as_flattened()].concat()
 }
 
 #[test]
 fn d_and_g_come_back() {
     // Types 1 and 2 carry no TEID, whatever is given.
     let of_d = Head {
-        kind: 1,
-        typ: 1,
         teid: u32::MAX,
         sequence: 1,
     };
     let d = octets(D);
-    assert_eq!(built(of_d, &[1, 1, 4, 10, 0, 3, 0, 12, 1, 0], &d), d);
-    let of_2 = Head { typ: 2, ..of_d };
+    let of_type = |typ| [1, 1, 6, 12, typ, 1, 0, 3, 0, 12, 1, 0];
+    assert_eq!(built(of_d, &of_type(1), &d), d);
     let mut two = d.clone();
     two[1] = 2;
-    assert_eq!(built(of_2, &[1, 1, 4, 10, 0, 3, 0, 12, 1, 0], &d), two);
+    assert_eq!(built(of_d, &of_type(2), &d), two);
     let g = octets(G);
     assert_eq!(built(OF_G, &G_TABLE, &g), g);
 }
@@ -76,7 +73,8 @@ fn d_and_g_come_back() {
 #[test]
 fn a_group_has_the_length_of_its_rows() {
     // Place and length of 93/0 mean nothing; 73/0 is the first octet of one.
-    let table = [2, 2, 4, 16, 0, 93, 0, 9_999, 9_999, 0, 1, 73, 0, 0, 1, 0];
+    let group = [0, 93, 0, 9_999, 9_999, 0];
+    let table = table_of(66, 1, &[group, [1, 73, 0, 0, 1, 0]]);
     assert_eq!(built(OF_G, &table, &[5]), octets(G));
 }
 
@@ -86,17 +84,16 @@ fn a_message_of_two_levels_by_hand() {
     // 255/9 (4 + 3). 12 + 6 + 4 + 5 + 6 + 5 + 7 = 45 octets, 41 (29 in hex) of them
     // after the length field; 93/0 has 11 (0B). Both 2/0 share their value.
     let values = [0x11, 0x22, 0x33, 0x44];
-    let table = table_of(&[
+    let rows = [
         [0, 2, 0, 1, 2, 0],
         [0, 93, 0, 0, 0, 0],
         [2, 73, 0, 0, 1, 0],
         [2, 2, 0, 1, 2, 0],
         [0, 3, 0, 3, 1, 0],
         [0, 255, 9, 1, 3, 0],
-    ]);
+    ];
+    let table = table_of(67, 2, &rows);
     let head = Head {
-        kind: 2,
-        typ: 67,
         teid: 0x0102_0304,
         sequence: 0x00A0_B0C0,
     };
@@ -107,21 +104,61 @@ fn a_message_of_two_levels_by_hand() {
 }
 
 #[test]
-fn kind_and_type_come_first() {
+fn kind_and_type_are_those_of_the_header() {
     let g = octets(G);
-    for kind in [0, 4, 257, u32::MAX] {
-        assert_eq!(code(Head { kind, ..OF_G }, &G_TABLE, &g), 1);
-        let unlisted = Head {
-            kind,
-            typ: 3,
-            ..OF_G
-        };
-        assert_eq!(code(unlisted, &[], &g), 1);
+    for kind in [1, 2, 3] {
+        let table = g_with(5, kind);
+        assert_eq!(built(OF_G, &table, &g), g);
     }
-    for typ in [0, 3, 65, 70, 98, 255, 256, 256 + 66, 65_536 + 66, u32::MAX] {
-        assert_eq!(code(Head { typ, ..OF_G }, &G_TABLE, &g), 7);
-        assert_eq!(code(Head { typ, ..OF_G }, &[], &[]), 7);
+    // 172/0 in 93/0 is listed on kinds 1 and 3, and in 97 on none.
+    let rows = [
+        [0, 93, 0, 0, 0, 0],
+        [1, 73, 0, 20, 1, 0],
+        [1, 172, 0, 20, 1, 0],
+    ];
+    let of = |typ, kind| code(OF_G, &table_of(typ, kind, &rows), &g);
+    assert_eq!([of(66, 1), of(66, 2), of(66, 3), of(97, 1)], [0, 16, 0, 16]);
+}
+
+#[test]
+fn a_short_header_comes_before_kind_before_type() {
+    let g = octets(G);
+    let unlisted = [0, 3, 65, 70, 98, 255, 256, 256 + 66, 0x8000 | 66, u16::MAX];
+    for kind in [0, 4, 257, 0x8001, u16::MAX] {
+        let mut table = g_with(5, kind);
+        assert_eq!(code(OF_G, &table, &g), 1);
+        // 1 before 7, and before the other reasons of 14.
+        table[4] = 3;
+        assert_eq!(code(OF_G, &table, &g), 1);
+        assert_eq!(code(OF_G, &table[..17], &g), 1);
+        assert_eq!(code(OF_G, &table[..6], &g), 1);
+        for length in 0..6 {
+            assert_eq!(code(OF_G, &table[..length], &g), 14);
+        }
     }
+    for typ in unlisted {
+        let table = g_with(4, typ);
+        assert_eq!(code(OF_G, &table, &g), 7);
+        assert_eq!(code(OF_G, &table[..17], &g), 7);
+        assert_eq!(code(OF_G, &table[..6], &[]), 7);
+        // The type is there, and the kind is not.
+        assert_eq!(code(OF_G, &table[..5], &g), 14);
+    }
+}
+
+#[test]
+fn a_table_with_a_header_of_four_is_no_table() {
+    // Its parent stands for the type, its element type for the kind: type 0 is not
+    // listed, and 93 is no kind.
+    let g = octets(G);
+    let old = [2, 2, 4, 16, 0, 93, 0, 16, 5, 0, 1, 73, 0, 20, 1, 0];
+    assert_eq!(code(OF_G, &old, &g), 1);
+    let d = octets(D);
+    let old = [1, 1, 4, 10, 0, 3, 0, 12, 1, 0, 0, 0];
+    assert_eq!(code(OF_G, &old, &d), 7);
+    // The numbers of a header of four in one of six.
+    assert_eq!(code(OF_G, &g_with(2, 4), &g), 14);
+    assert_eq!(code(OF_G, &g_with(3, 16), &g), 14);
 }
 
 /// G's table with one number changed.
@@ -140,54 +177,54 @@ fn a_table_must_be_long_enough_and_agree() {
     let longer = [&G_TABLE[..], &[9, 9, 9]].concat();
     assert_eq!(code(OF_G, &longer, &g), 0);
     // Rows, kept rows, place of the first, numbers used; by one either way.
-    for (at, own) in [2, 2, 4, 16].into_iter().enumerate() {
+    for (at, own) in [2, 2, 6, 18].into_iter().enumerate() {
         assert_eq!(code(OF_G, &g_with(at, own - 1), &g), 14, "{at}");
         let more = [&g_with(at, own + 1)[..], &[0; 12]].concat();
         assert_eq!(code(OF_G, &more, &g), 14, "{at}");
     }
-    // No row at all is a table of four numbers, and then 93/0 is missing.
-    assert_eq!(code(OF_G, &[0, 0, 4, 4], &g), 16);
+    // No row at all is a table of six numbers, and then 93/0 is missing.
+    assert_eq!(code(OF_G, &[0, 0, 6, 6, 66, 1], &g), 16);
 }
 
 #[test]
 fn what_a_row_may_say() {
     let g = octets(G);
     for standing in [1, 2, 3, 4, 256] {
-        assert_eq!(code(OF_G, &g_with(15, standing), &g), 14);
+        assert_eq!(code(OF_G, &g_with(17, standing), &g), 14);
         // Also where the header counts it as not kept.
-        let mut counted = g_with(15, standing);
+        let mut counted = g_with(17, standing);
         counted[1] = 1;
         assert_eq!(code(OF_G, &counted, &g), 14);
     }
-    assert_eq!(code(OF_G, &g_with(11, 256 + 73), &g), 14);
-    assert_eq!(code(OF_G, &g_with(11, 256), &g), 14);
-    assert_eq!(code(OF_G, &g_with(11, 255), &g), 16);
-    assert_eq!(code(OF_G, &g_with(12, 16), &g), 14);
-    assert_eq!(code(OF_G, &g_with(12, 15), &g), 16);
+    assert_eq!(code(OF_G, &g_with(13, 256 + 73), &g), 14);
+    assert_eq!(code(OF_G, &g_with(13, 256), &g), 14);
+    assert_eq!(code(OF_G, &g_with(13, 255), &g), 16);
+    assert_eq!(code(OF_G, &g_with(14, 16), &g), 14);
+    assert_eq!(code(OF_G, &g_with(14, 15), &g), 16);
     // A group of another instance is a group all the same.
-    assert_eq!(code(OF_G, &g_with(6, 5), &g), 16);
+    assert_eq!(code(OF_G, &g_with(8, 5), &g), 16);
 }
 
 #[test]
 fn values_lie_in_the_buffer() {
     let g = octets(G);
-    assert_eq!(code(OF_G, &g_with(13, 21), &g), 14);
-    assert_eq!(code(OF_G, &g_with(14, 2), &g), 14);
-    assert_eq!(code(OF_G, &g_with(13, u16::MAX), &g), 14);
+    assert_eq!(code(OF_G, &g_with(15, 21), &g), 14);
+    assert_eq!(code(OF_G, &g_with(16, 2), &g), 14);
+    assert_eq!(code(OF_G, &g_with(15, u16::MAX), &g), 14);
     // An empty one at the very end lies in it, and is short; one octet further
     // it does not.
     let empty_at = |place| {
-        let mut table = g_with(13, place);
-        table[14] = 0;
+        let mut table = g_with(15, place);
+        table[16] = 0;
         code(OF_G, &table, &g)
     };
     assert_eq!(empty_at(21), 16);
     assert_eq!(empty_at(22), 14);
     // Place and length are added without being cut.
     let far = vec![5; 65_536];
-    assert_eq!(code(OF_G, &g_with(13, u16::MAX), &far), 0);
-    let mut two = g_with(13, u16::MAX);
-    two[14] = 2;
+    assert_eq!(code(OF_G, &g_with(15, u16::MAX), &far), 0);
+    let mut two = g_with(15, u16::MAX);
+    two[16] = 2;
     assert_eq!(code(OF_G, &two, &far), 14);
 }
 
@@ -196,7 +233,7 @@ fn parents_are_groups_in_depth_first_order() {
     let parents = |parents: &[u16], types: &[u16]| {
         let rows = parents.iter().zip(types);
         let rows = rows.map(|(&parent, &typ)| [parent, typ, 0, 0, 1, 0]);
-        code(OF_G, &table_of(&rows.collect::<Vec<_>>()), &[5])
+        code(OF_G, &table_of(66, 1, &rows.collect::<Vec<_>>()), &[5])
     };
     assert_eq!(parents(&[0, 1, 0, 3], &[93, 73, 93, 73]), 0);
     // The first row's parent, the row itself, and a row to come.
@@ -238,9 +275,9 @@ fn fourteen_before_fifteen_before_sixteen() {
     };
     assert_eq!(with_room(&G_TABLE, 21), 0);
     assert_eq!(with_room(&G_TABLE, 20), 15);
-    assert_eq!(with_room(&g_with(15, 1), 20), 14);
-    assert_eq!(with_room(&g_with(12, 1), 20), 15);
-    assert_eq!(with_room(&g_with(12, 1), 21), 16);
+    assert_eq!(with_room(&g_with(17, 1), 20), 14);
+    assert_eq!(with_room(&g_with(14, 1), 20), 15);
+    assert_eq!(with_room(&g_with(14, 1), 21), 16);
 }
 
 #[test]
@@ -251,7 +288,7 @@ fn no_message_passes_4096_octets() {
     let with = |length| {
         let context = [[0, 93, 0, 0, 0, 0], [1, 73, 0, 0, 1, 0]];
         let private = [0, 255, 0, 0, length, 0];
-        table_of(&[context[0], context[1], private])
+        table_of(66, 1, &[context[0], context[1], private])
     };
     let longest = built(OF_G, &with(4_071), &values);
     assert_eq!((longest.len(), &longest[2..4]), (4_096, &[0x0F, 0xFC][..]));
@@ -260,15 +297,15 @@ fn no_message_passes_4096_octets() {
 
 #[test]
 fn rows_that_no_header_counts() {
-    // 4 + 6 * 10,922 is 65,536, which 16 bits cannot say.
+    // 6 + 6 * 10,922 is 65,538, which 16 bits cannot say.
     let of = |rows: usize, used: u16| {
         let row = [0, 255, 0, 0, 0, 0];
         let count = rows as u16;
-        let header = [count, count, 4, used];
+        let header = [count, count, 6, used, 66, 1];
         [&header[..], vec![row; rows].as_flattened()].concat()
     };
-    assert_eq!(code(OF_G, &of(10_921, 65_530), &[]), 15);
-    assert_eq!(code(OF_G, &of(10_922, 0), &[]), 14);
+    assert_eq!(code(OF_G, &of(10_921, 65_532), &[]), 15);
+    assert_eq!(code(OF_G, &of(10_922, 2), &[]), 14);
 }
 
 #[test]
@@ -276,7 +313,7 @@ fn sixteen_where_some_row_would_not_be_kept() {
     let g = octets(G);
     let with = |row: [u16; 6]| {
         let context = [[0, 93, 0, 0, 0, 0], [1, 73, 0, 20, 1, 0]];
-        code(OF_G, &table_of(&[context[0], context[1], row]), &g)
+        code(OF_G, &table_of(66, 1, &[context[0], context[1], row]), &g)
     };
     assert_eq!(with([0, 170, 0, 0, 4, 0]), 0);
     // Short, repeated, unexpected; 180/1 on kind 1.
@@ -287,8 +324,9 @@ fn sixteen_where_some_row_would_not_be_kept() {
     // 180/0 is listed, and lacks all that it must have.
     assert_eq!(with([0, 180, 0, 0, 0, 0]), 16);
     // A mandatory row that is short, or not there.
-    assert_eq!(code(OF_G, &g_with(14, 0), &g), 16);
-    assert_eq!(code(OF_G, &table_of(&[[0, 93, 0, 0, 0, 0]]), &g), 16);
+    assert_eq!(code(OF_G, &g_with(16, 0), &g), 16);
+    let empty = table_of(66, 1, &[[0, 93, 0, 0, 0, 0]]);
+    assert_eq!(code(OF_G, &empty, &g), 16);
 }
 
 /// The message with all bits zero that nothing reads.
@@ -303,8 +341,8 @@ fn without_ignored_bits(message: &[u8], rows: &[[u16; 6]]) -> Vec<u8> {
     octets
 }
 
-/// Type, TEID and sequence number of a message.
-fn head_of(kind: u32, message: &[u8]) -> Head {
+/// TEID and sequence number of a message.
+fn head_of(message: &[u8]) -> Head {
     let number = |octets: &[u8]| {
         octets
             .iter()
@@ -312,8 +350,6 @@ fn head_of(kind: u32, message: &[u8]) -> Head {
     };
     let t = message[0] & 8 != 0;
     Head {
-        kind,
-        typ: message[1].into(),
         teid: if t { number(&message[4..8]) } else { 77 },
         sequence: number(if t { &message[8..11] } else { &message[4..7] }),
     }
@@ -326,7 +362,7 @@ fn an_accepted_message_comes_back() {
     for _ in 0..20_000 {
         let case = generator.good();
         let table = table(case.kind, &case.message);
-        let head = head_of(case.kind, &case.message);
+        let head = head_of(&case.message);
         if table[0] == table[1] {
             let expected = without_ignored_bits(&case.message, rows(&table));
             assert_eq!(built(head, &table, &case.message), expected);
@@ -345,22 +381,22 @@ fn reasons(what: &Build) -> BTreeSet<&'static str> {
     if what.head.sequence > 16_777_215 {
         reasons.insert("sequence");
     }
-    if table.len() < 4 {
+    if table.len() < 6 {
         reasons.insert("shorter than a header");
         return reasons;
     }
     let [count, kept, first, used] = [0, 1, 2, 3].map(|at| u64::from(table[at]));
-    if first != 4 {
+    if first != 6 {
         reasons.insert("first row's place");
     }
-    if used != 4 + 6 * count {
+    if used != 6 + 6 * count {
         reasons.insert("numbers used");
     }
-    if (table.len() as u64) < 4 + 6 * count {
+    if (table.len() as u64) < 6 + 6 * count {
         reasons.insert("shorter than the numbers used");
         return reasons;
     }
-    let rows = table[4..].chunks_exact(6).take(count as usize);
+    let rows = table[6..].chunks_exact(6).take(count as usize);
     let rows = rows.collect::<Vec<_>>();
     if kept != rows.iter().filter(|row| row[5] == 0).count() as u64 {
         reasons.insert("kept rows");
@@ -433,17 +469,22 @@ enum Wrong {
     SequenceBehind,
     HeaderLength,
     LengthAnswered,
+    /// Kind and type of the header without their high octets.
+    KindCut,
+    TypeCut,
+    /// Kind and type as they are, also where the table is short of its header.
+    HeaderNotFirst,
+    /// All reasons of 14 before the kind.
+    TableFirst,
+    /// The kind that is asked for is another than the one in the header.
+    KindTurned,
 }
 
 /// The message by the words of the rule.
 fn by_the_words(what: &Build, wrong: Wrong) -> Vec<u8> {
-    let Head {
-        typ,
-        teid,
-        sequence,
-        ..
-    } = what.head;
-    let (_, numbers) = what.table.split_at(4);
+    let Head { teid, sequence } = what.head;
+    let typ = what.table[4];
+    let (_, numbers) = what.table.split_at(6);
     let rows = &numbers.as_chunks().0[..usize::from(what.table[0])];
     let mut octets = vec![0x40, typ as u8, 0, 0];
     if typ > 2 || wrong == Wrong::TeidInEcho {
@@ -471,17 +512,37 @@ fn all_kept(kind: u32, message: &[u8]) -> bool {
 
 /// The code that the rule gives, by its words, and the message where it is 0.
 fn expected(what: &Build, room: usize) -> Result<Vec<u8>, u16> {
-    let Head { kind, typ, .. } = what.head;
+    expected_of(what, room, Wrong::Nothing)
+}
+
+/// The same by a builder that has this wrong.
+fn expected_of(what: &Build, room: usize, wrong: Wrong) -> Result<Vec<u8>, u16> {
+    let header = what.table.get(..6);
+    let short_first = wrong != Wrong::HeaderNotFirst;
+    if header.is_none() && short_first || wrong == Wrong::TableFirst && !reasons(what).is_empty() {
+        return Err(14);
+    }
+    // What is not there would be no kind and no type.
+    let number = |at: usize| what.table.get(at).copied().unwrap_or(0);
+    let kind = match wrong {
+        Wrong::KindCut => number(5) & 0xFF,
+        Wrong::KindTurned if (1..=3).contains(&number(5)) => number(5) % 3 + 1,
+        _ => number(5),
+    };
+    let typ = match wrong {
+        Wrong::TypeCut => number(4) & 0xFF,
+        _ => number(4),
+    };
     if !(1..=3).contains(&kind) {
         return Err(1);
     }
-    if ![1, 2, 32, 37, 66, 67, 68, 69, 97].contains(&typ) {
+    if !LISTED.contains(&typ) {
         return Err(7);
     }
     if !reasons(what).is_empty() {
         return Err(14);
     }
-    let rows = what.table[4..].chunks_exact(6);
+    let rows = what.table[6..].chunks_exact(6);
     let rows = rows.take(usize::from(what.table[0]));
     let octets = rows.map(|row| match row[1] {
         93 | 180 => 4,
@@ -492,8 +553,8 @@ fn expected(what: &Build, room: usize) -> Result<Vec<u8>, u16> {
     if need > 4_096 || need > room as u64 {
         return Err(15);
     }
-    let message = by_the_words(what, Wrong::Nothing);
-    match all_kept(kind, &message) {
+    let message = by_the_words(what, wrong);
+    match all_kept(kind.into(), &message) {
         true => Ok(message),
         false => Err(16),
     }
@@ -502,8 +563,9 @@ fn expected(what: &Build, room: usize) -> Result<Vec<u8>, u16> {
 /// Parents, pairs and values of the rows that a message was built of, as the
 /// judge finds them again.
 fn assert_rows_are_the_same(what: &Build, message: &[u8]) {
-    let table = table(what.head.kind, message);
-    let wanted = what.table[4..].as_chunks().0;
+    let table = table(what.table[5].into(), message);
+    assert_eq!(table[4..6], what.table[4..6]);
+    let wanted = what.table[6..].as_chunks().0;
     for (row, wanted) in rows(&table).iter().zip(wanted) {
         assert_eq!(row[..3], wanted[..3]);
         assert_eq!(row[5], 0);
@@ -576,25 +638,74 @@ fn too_large(what: &Build, room: usize) -> &'static str {
 /// that are not kept.
 fn not_whole(what: &Build) -> String {
     let message = by_the_words(what, Wrong::Nothing);
-    let (verdict, table) = judged(what.head.kind, &message);
+    let (verdict, table) = judged(what.table[5].into(), &message);
     if !verdict.accepted() {
         return format!("refusal {}", verdict.code);
     }
-    let rows = table[4..].chunks_exact(6).take(usize::from(table[0]));
-    let aside: BTreeSet<u16> = rows.map(|row| row[5]).filter(|&standing| standing != 0).collect();
+    let rows = table[6..].chunks_exact(6).take(usize::from(table[0]));
+    let aside: BTreeSet<u16> = rows
+        .map(|row| row[5])
+        .filter(|&standing| standing != 0)
+        .collect();
     match aside.len() {
         1 => format!("standing {}", aside.first().expect("one")),
         _ => "several standings".into(),
     }
 }
 
+const LISTED: [u16; 9] = [1, 2, 32, 37, 66, 67, 68, 69, 97];
+
+/// What is met in the header of a build, with the code that it gives.
+fn of_the_header(what: &Build) -> Vec<String> {
+    let table = &what.table;
+    let code = expected(what, 4_096).err().unwrap_or(0);
+    let unlisted = |at: usize| table.get(at).is_some_and(|typ| !LISTED.contains(typ));
+    let length = table.len();
+    if length < 6 {
+        return vec![match (length, unlisted(4)) {
+            (5, true) => format!("5 numbers of an unlisted type: {code}"),
+            (5, false) => format!("5 numbers of a listed type: {code}"),
+            _ => format!("{length} numbers: {code}"),
+        }];
+    }
+    let mut names = Vec::new();
+    if length == 6 {
+        names.push(format!("6 numbers: {code}"));
+    }
+    if table[2] == 4 && u64::from(table[3]) == 4 + 6 * u64::from(table[0]) {
+        names.push(format!("header of four: {code}"));
+    }
+    let (kind, bad_kind) = (table[5], !(1..=3).contains(&table[5]));
+    let wide = if table[4] > 255 {
+        "past an octet"
+    } else {
+        "an octet"
+    };
+    let faults = (bad_kind, unlisted(4), !reasons(what).is_empty());
+    names.push(match faults {
+        (true, false, false) if (257..=259).contains(&kind) => {
+            format!("kind its own and 256: {code}")
+        }
+        (true, false, false) => format!("kind {kind}: {code}"),
+        (false, true, false) => format!("type {wide}: {code}"),
+        (true, true, _) => format!("kind and type {wide}: {code}"),
+        (true, false, true) => format!("kind and table: {code}"),
+        (false, true, true) => format!("type and table: {code}"),
+        (false, false, _) => return names,
+    });
+    names
+}
+
 /// What the gate's builds meet: each code with each room and answer, each
-/// reason for 14 and 15 alone, and those for 16.
+/// reason for 14 and 15 alone, those for 16, and every fault of a header.
 #[test]
 fn every_reason_is_met() {
     let mut met = BTreeMap::new();
     for (seed, what) in builds().iter().enumerate() {
         let good_head = expected(what, 0) != Err(1) && expected(what, 0) != Err(7);
+        for name in of_the_header(what) {
+            *met.entry(name).or_insert(0) += 1;
+        }
         let mut alone = reasons(what).into_iter();
         if let (true, Some(reason), None) = (good_head, alone.next(), alone.next()) {
             *met.entry(format!("14 for {reason} alone")).or_insert(0) += 1;
@@ -636,6 +747,25 @@ fn every_reason_is_met() {
     ] {
         wanted.push(format!("14 for {reason} alone"));
     }
+    for length in 0..5 {
+        wanted.push(format!("{length} numbers: 14"));
+    }
+    wanted.extend([
+        "5 numbers of a listed type: 14".into(),
+        "5 numbers of an unlisted type: 14".into(),
+    ]);
+    for code in [1, 7, 14, 16] {
+        wanted.push(format!("6 numbers: {code}"));
+    }
+    for kind in ["0", "4", "its own and 256", "65535"] {
+        wanted.push(format!("kind {kind}: 1"));
+    }
+    for typ in ["an octet", "past an octet"] {
+        wanted.push(format!("type {typ}: 7"));
+        wanted.push(format!("kind and type {typ}: 1"));
+    }
+    wanted.extend(["kind and table: 1".into(), "type and table: 7".into()]);
+    wanted.extend(["header of four: 1".into(), "header of four: 7".into()]);
     for code in [0, 1, 7, 14, 15, 16] {
         wanted.push(format!("code {code}"));
         for answer in ANSWERS {
@@ -648,7 +778,13 @@ fn every_reason_is_met() {
     for why in ["4,096 octets alone", "the room alone"] {
         wanted.push(format!("15 for {why}"));
     }
-    for why in ["refusal 11", "refusal 12", "standing 1", "standing 2", "standing 3"] {
+    for why in [
+        "refusal 11",
+        "refusal 12",
+        "standing 1",
+        "standing 2",
+        "standing 3",
+    ] {
         wanted.push(format!("16 for {why}"));
     }
     for name in wanted {
@@ -666,17 +802,20 @@ fn wrong_builders_are_seen() {
         Wrong::SequenceBehind,
         Wrong::HeaderLength,
         Wrong::LengthAnswered,
+        Wrong::KindCut,
+        Wrong::TypeCut,
+        Wrong::HeaderNotFirst,
+        Wrong::TableFirst,
+        Wrong::KindTurned,
     ];
-    let mut seen = [0; 7];
+    let mut seen = [0; 12];
     for (seed, what) in builds().iter().enumerate() {
         let [enough, _] = what.lent(seed as u64);
-        let Ok(message) = expected(what, enough.room) else {
-            continue;
-        };
+        let right = expected(what, enough.room);
         for (seen, wrong) in seen.iter_mut().zip(all) {
-            let differs = match wrong {
-                Wrong::LengthAnswered => message.len() != what.values.len(),
-                _ => by_the_words(what, wrong) != message,
+            let differs = match (wrong, &right) {
+                (Wrong::LengthAnswered, Ok(message)) => message.len() != what.values.len(),
+                _ => expected_of(what, enough.room, wrong) != right,
             };
             *seen += usize::from(differs);
         }
@@ -721,14 +860,17 @@ fn g_in_octets() {
     assert_eq!(room[..], octets(&[G, "EE EE"].concat()));
     let six = octets("00 00 00 00 00 00 00 00 00 00 00 15 EE EE EE");
     assert_eq!(answer[..], six);
-    // One octet less is 15 numbers and a half.
-    table.truncate(31);
+    // One octet less is 17 numbers and a half.
+    table.truncate(35);
     let mut answer = [UNTOUCHED; 12];
     assert_eq!(build_octets(OF_G, &table, &g, &mut room, &mut answer), 14);
     assert_eq!(answer[..], octets("00 0E 00 00 00 00 00 00 00 00 00 00"));
     let mut answer = [UNTOUCHED; 11];
     assert_eq!(build_octets(OF_G, &table, &g, &mut room, &mut answer), 14);
     assert_eq!(answer, [UNTOUCHED; 11]);
+    // Eleven octets are five numbers and half of the kind.
+    table.truncate(11);
+    assert_eq!(build_octets(OF_G, &table, &g, &mut room, &mut []), 14);
 }
 
 /// A cleaned copy without ignored bits is what the builder makes of its rows.
@@ -739,6 +881,6 @@ fn a_cleaned_copy_comes_back() {
     let answer = second::clean(1, &cleaned, &mut copy);
     copy.truncate(usize::from(answer.length));
     let table = table(1, &copy);
-    assert_eq!(built(head_of(1, &copy), &table, &copy), copy);
-    assert_eq!(DOCUMENT.build_need(OF_G, &table), copy.len());
+    assert_eq!(built(head_of(&copy), &table, &copy), copy);
+    assert_eq!(DOCUMENT.build_need(&table), copy.len());
 }

@@ -153,6 +153,7 @@ fn assert_promised(case: &Case, table: &[u16], copy: &[u8]) {
     assert_eq!(verdict, Verdict::ACCEPTED);
     assert_eq!(copied[0], copied[1], "every row is kept");
     assert_eq!(copied[1], table[1], "as many as the message has kept");
+    assert_eq!(copied[4..6], table[4..6], "of the same type and kind");
     assert_eq!(said(copy, rows(&copied)), said(message, rows(table)));
     assert_eq!(cleaned(*kind, copy), copy, "once more changes nothing");
     assert!(copy.len() <= message.len());

@@ -125,6 +125,7 @@ fn every_code_in_the_mix() {
 /// Verdict code and length of the lent buffer, one for each way to lend it.
 fn count_lent(counts: &mut Counts, what: &str, code: u16, lent: usize, need: usize) {
     let length = match lent {
+        _ if lent + 2 == need => "two short",
         _ if lent + 1 == need => "one short",
         _ if lent == need => "exact",
         _ if lent > need => "longer",
@@ -143,6 +144,12 @@ fn tables_and_copies_of_every_length() {
         counts.expect(format!("{what} exact: code 0"));
         counts.expect(format!("{what} longer: code 0"));
     }
+    // So long a header of four was.
+    counts.expect("table two short: code 10");
+    for numbers in 0..6 {
+        counts.expect(format!("table of {numbers} numbers: code 10"));
+    }
+    counts.expect("table of 6 numbers: code 12");
     for code in [11, 12] {
         counts.expect(format!("table exact: code {code}"));
         counts.expect(format!("table longer: code {code}"));
@@ -164,6 +171,8 @@ fn tables_and_copies_of_every_length() {
             let mut table = vec![0; lent.table / 2];
             let code = judge(case.kind, &case.message, &mut table).code;
             count_lent(&mut counts, "table", code, table.len(), case.table_need());
+            let numbers = table.len();
+            counts.count(&format!("table of {numbers} numbers: code {code}"));
             let mut copy = vec![0; lent.copy];
             let code = mask(case.kind, &case.message, &mut copy).code;
             count_lent(&mut counts, "copy", code, copy.len(), case.message.len());
@@ -428,9 +437,10 @@ fn edges(lookup: &Lookup) -> Vec<&'static str> {
     let mut edges = Vec::new();
     let rows = table.first().map_or(0, |&rows| usize::from(rows));
     match table.len() {
-        0..=3 => edges.push("table without a header"),
-        length if length + 1 == 4 + 6 * rows => edges.push("table one short"),
-        length if length == 4 + 6 * rows => edges.push("table exact"),
+        0..=5 => edges.push("table without a header"),
+        length if length + 2 == 6 + 6 * rows => edges.push("table two short"),
+        length if length + 1 == 6 + 6 * rows => edges.push("table one short"),
+        length if length == 6 + 6 * rows => edges.push("table exact"),
         _ => {}
     }
     if let Ask::Desk { row, .. } = lookup.ask {
@@ -442,7 +452,7 @@ fn edges(lookup: &Lookup) -> Vec<&'static str> {
             _ => {}
         }
         if let Some(&[.., place, length, _]) = table
-            .get(4 + 6 * row.min(rows)..)
+            .get(6 + 6 * row.min(rows)..)
             .and_then(<[_]>::first_chunk::<6>)
         {
             match (usize::from(place) + usize::from(length)) as isize - message.len() as isize {
@@ -462,6 +472,7 @@ fn lookups_at_every_edge() {
     let mut counts = Counts::default();
     for edge in [
         "table without a header",
+        "table two short",
         "table one short",
         "table exact",
         "row past the last",

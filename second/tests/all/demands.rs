@@ -41,7 +41,9 @@ fn rows_lie_within_their_parents_and_siblings_never_overlap() {
             assert_rows_tile_their_levels(&case.message, rows(&table));
             let kept = rows(&table).iter().filter(|row| row[5] == 0).count();
             assert_eq!(usize::from(table[1]), kept);
-            assert_eq!(table[2..4], [4, 4 + 6 * table[0]]);
+            assert_eq!(table[2..4], [6, 6 + 6 * table[0]]);
+            let typ = case.message[1].into();
+            assert_eq!(table[4..6], [typ, case.kind as u16]);
         }
     }
     assert!(accepted > CASES / 3);

@@ -36,7 +36,7 @@ fn c_header() {
 #[test]
 fn d_echo() {
     let table = table(1, &octets(D));
-    assert_eq!(table, [1, 1, 4, 10, 0, 3, 0, 12, 1, 0]);
+    assert_eq!(table, [1, 1, 6, 12, 1, 1, 0, 3, 0, 12, 1, 0]);
 }
 
 #[test]
@@ -54,7 +54,7 @@ fn e_mandatory_missing() {
 #[test]
 fn f_repeated() {
     let message = octets("40 01 00 0D 00 00 01 00 03 00 01 00 07 03 00 00 00");
-    let expected = [2, 1, 4, 16, 0, 3, 0, 12, 1, 0, 0, 3, 0, 17, 0, 2];
+    let expected = [2, 1, 6, 18, 1, 1, 0, 3, 0, 12, 1, 0, 0, 3, 0, 17, 0, 2];
     assert_eq!(table(1, &message), expected);
 }
 
@@ -67,7 +67,7 @@ fn f_exchanged() {
 #[test]
 fn g_group() {
     let message = octets(G);
-    let expected = [2, 2, 4, 16, 0, 93, 0, 16, 5, 0, 1, 73, 0, 20, 1, 0];
+    let expected = [2, 2, 6, 18, 66, 1, 0, 93, 0, 16, 5, 0, 1, 73, 0, 20, 1, 0];
     assert_eq!(table(1, &message), expected);
     let input = [&[1], &message[..]].concat();
     assert_eq!(
@@ -98,7 +98,7 @@ fn j_autumn_night() {
 #[test]
 fn k_unexpected_on_kind_1() {
     let expected = [
-        3, 2, 4, 22, 0, 93, 0, 16, 5, 0, 1, 73, 0, 20, 1, 0, 0, 180, 1, 25, 0, 1,
+        3, 2, 6, 24, 66, 1, 0, 93, 0, 16, 5, 0, 1, 73, 0, 20, 1, 0, 0, 180, 1, 25, 0, 1,
     ];
     assert_eq!(table(1, &k()), expected);
 }
@@ -111,7 +111,7 @@ fn l_listed_on_kind_3() {
 #[test]
 fn m_masked() {
     let message = octets("40 01 00 0F 00 00 01 00 03 00 01 00 07 C8 00 02 00 11 22");
-    let expected = [2, 1, 4, 16, 0, 3, 0, 12, 1, 0, 0, 200, 0, 17, 2, 1];
+    let expected = [2, 1, 6, 18, 1, 1, 0, 3, 0, 12, 1, 0, 0, 200, 0, 17, 2, 1];
     assert_eq!(table(1, &message), expected);
     let mut copy = vec![0xEE; message.len()];
     assert_eq!(mask(1, &message, &mut copy), Verdict::ACCEPTED);

@@ -20,16 +20,17 @@ fn five_after(verdict: Verdict, length: usize) -> Vec<u8> {
 #[test]
 fn example_d_in_octets() {
     let message = octets("40 01 00 09 00 00 01 00 03 00 01 00 07");
-    let mut table = [0xEE; 23];
+    let mut table = [0xEE; 27];
     let mut five = [0xEE; 12];
     assert_eq!(judge_octets(1, &message, &mut table, &mut five), 0);
-    let expected = octets("00 01 00 01 00 04 00 0A 00 00 00 03 00 00 00 0C 00 01 00 00 EE EE EE");
+    let expected =
+        octets("00 01 00 01 00 06 00 0C 00 01 00 01 00 00 00 03 00 00 00 0C 00 01 00 00 EE EE EE");
     assert_eq!(table[..], expected);
     assert_eq!(five[..], octets("00 00 00 00 00 00 00 00 00 00 EE EE"));
-    // 19 octets are 9 numbers.
-    let mut table = [0xEE; 19];
+    // 23 octets are 11 numbers.
+    let mut table = [0xEE; 23];
     assert_eq!(judge_octets(1, &message, &mut table, &mut five), 10);
-    assert_eq!(table, [0xEE; 19]);
+    assert_eq!(table, [0xEE; 23]);
     assert_eq!(five[..], octets("00 0A 00 00 00 00 00 00 00 00 EE EE"));
 }
 
@@ -45,7 +46,7 @@ fn example_f_in_octets() {
 #[test]
 fn a_short_five_buffer_stops_no_other_write() {
     let message = octets("40 01 00 09 00 00 01 00 03 00 01 00 07");
-    let mut table = [0xEE; 20];
+    let mut table = [0xEE; 24];
     let mut five = [0xEE; 9];
     assert_eq!(judge_octets(1, &message, &mut table, &mut five), 0);
     assert_eq!(table[..2], [0, 1]);

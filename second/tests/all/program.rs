@@ -127,21 +127,29 @@ fn clean_command() {
 #[test]
 fn lookup_command() {
     let g = G.replace(' ', "");
-    let table = "2,2,4,16,0,93,0,16,5,0,1,73,0,20,1,0";
+    let table = "2,2,6,18,66,1,0,93,0,16,5,0,1,73,0,20,1,0";
     let lines = [
-        format!("desk 1 1 {g} {g} {table}"),
-        format!("desk 2 1 {g} {g} {table}"),
-        format!("desk 1 0 {g} - {table}"),
-        format!("plain 93 0 {g} {table}"),
-        format!("plain 73 0 {g} {table}"),
-        format!("plain 73 0 {g} 1,1,4,10,0,73,0,21,0,0"),
-        "plain 3 0 - -".into(),
-        "desk 0 0 - - 0,0,4,4".into(),
+        format!("desk 1 1 1 {g} {g} {table}"),
+        format!("desk 1 2 1 {g} {g} {table}"),
+        format!("desk 1 1 0 {g} - {table}"),
+        format!("desk 2 1 1 {g} {g} {table}"),
+        format!("plain 1 93 0 {g} {table}"),
+        format!("plain 4294967295 93 0 {g} {table}"),
+        format!("plain 1 73 0 {g} {table}"),
+        format!("plain 1 73 0 {g} 1,1,6,12,66,1,0,73,0,21,0,0"),
+        "plain 1 3 0 - -".into(),
+        "desk 1 0 0 - - 0,0,6,6,1,1".into(),
     ];
     let output = second(&["lookup"], lines.join("\n").as_bytes());
-    let expected = "1 05\n0 \n0 \n1 4900010005\n0 \n1 \n0 \n0 \n";
+    let expected = "1 05\n0 \n0 \n0 \n1 4900010005\n0 \n0 \n1 \n0 \n0 \n";
     assert_eq!(printed(output), expected);
-    assert_eq!(second(&["lookup"], b"plain 3 0").status.code(), Some(2));
+    // A line without a kind, and a kind past 32 bits.
+    for line in [
+        format!("plain 93 0 {g} {table}"),
+        format!("plain 4294967296 93 0 {g} {table}"),
+    ] {
+        assert_eq!(second(&["lookup"], line.as_bytes()).status.code(), Some(2));
+    }
 }
 
 #[test]

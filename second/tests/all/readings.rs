@@ -299,16 +299,32 @@ fn a_small_table_comes_between_9_and_11() {
         verdict
     };
     let missing = message(1, "");
-    assert_eq!(judge_with(&missing, 3).code, 10);
-    assert_eq!(judge_with(&missing, 4), verdict([12, 70, 0, 3, 0]));
+    for numbers in 0..6 {
+        assert_eq!(judge_with(&missing, numbers).code, 10);
+    }
+    assert_eq!(judge_with(&missing, 6), verdict([12, 70, 0, 3, 0]));
     let short = message(1, "03 00 00 00");
-    assert_eq!(judge_with(&short, 9), verdict([10, 0, 0, 0, 0]));
-    assert_eq!(judge_with(&short, 10), verdict([11, 67, 8, 3, 0]));
+    assert_eq!(judge_with(&short, 11), verdict([10, 0, 0, 0, 0]));
+    assert_eq!(judge_with(&short, 12), verdict([11, 67, 8, 3, 0]));
     let broken = message(1, "03 00 01 00");
     assert_eq!(judge_with(&broken, 0), verdict([9, 67, 8, 0, 0]));
     let good = message(1, "03 00 01 00 07");
-    assert_eq!(judge_with(&good, 9).code, 10);
-    assert_eq!(judge_with(&good, 10), Verdict::ACCEPTED);
+    // 10 numbers were enough for a header of four.
+    assert_eq!(judge_with(&good, 10).code, 10);
+    assert_eq!(judge_with(&good, 11).code, 10);
+    assert_eq!(judge_with(&good, 12), Verdict::ACCEPTED);
+}
+
+#[test]
+fn a_table_says_what_it_is_a_table_of() {
+    // The same octets on each kind, with what each kind sets aside; and an echo.
+    let whole = message(66, &join(&[CONTEXT, "C9 00 01 00 00"]));
+    for (kind, kept) in [(1, 3), (2, 2), (3, 3)] {
+        let table = table(kind, &whole);
+        assert_eq!(table[..6], [3, kept, 6, 24, 66, kind as u16]);
+    }
+    let echo = message(2, "03 00 01 00 07");
+    assert_eq!(table(3, &echo)[..6], [1, 1, 6, 12, 2, 3]);
 }
 
 /// The places of the covered octets.

@@ -116,7 +116,7 @@ fn cleaned_copies_are_as_expected() {
 #[test]
 fn verdicts_are_as_expected() {
     for line in expected() {
-        let mut table = [0; 4 + 6 * 1022];
+        let mut table = [0; 6 + 6 * 1022];
         let verdict = judge(line.kind, &sample(&line.name), &mut table);
         assert_eq!(verdict, line.verdict, "{}", line.name);
     }

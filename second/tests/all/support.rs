@@ -49,7 +49,7 @@ pub fn table(kind: u32, message: &[u8]) -> Vec<u16> {
 
 /// The rows of a table of the judge.
 pub fn rows(table: &[u16]) -> &[[u16; 6]] {
-    let (rows, rest) = table[4..].as_chunks();
+    let (rows, rest) = table[6..].as_chunks();
     assert!(rest.is_empty());
     rows
 }

@@ -106,7 +106,7 @@ fn compare(line: &Line, buffers: &mut Buffers) {
 }
 
 fn main() {
-    let mut buffers = Buffers { table: vec![0; 2 * 6_136], copy: vec![0; LARGEST], five: vec![0; 10], answer: vec![0; 12] };
+    let mut buffers = Buffers { table: vec![0; 2 * 6_138], copy: vec![0; LARGEST], five: vec![0; 10], answer: vec![0; 12] };
     let words: Vec<String> = std::env::args().skip(1).collect();
     if let [line, side, turns] = &words[..] {
         let line = &lines(150)[line.parse::<usize>().expect("a line")];

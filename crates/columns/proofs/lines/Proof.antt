@@ -22,7 +22,7 @@ loop-holds : tie.Need-loop-holds Inv-loop μ-loop
 loop-holds c = record { turning = turns-start _ _ _ _ _; all = c .rows .ensures }
 
 line-requires : tie.Need-line-requires Inv-loop μ-loop
-line-requires c κs = omega (arith, c .before .before .loop .inv .all)
+line-requires c κs = record { all = c .before .before .loop .inv .all; among = c .before .loop-test .taken }
 
 add-row : tie.Need-add-row Inv-loop μ-loop
 add-row c = omega arith

@@ -1,12 +1,11 @@
 -- `row_run` asks for the six numbers. Assumes nothing.
 use native.Mathlib.Omega.{arith}
-use Rattle.lookup.proofs.Tables.{row-in}
 use borrow.Author.Needs.{needs}
 use Rattle.columns.proofs.row_run.Statement.{statement}
 use Rattle.columns.proofs.row_run.Tie as tie
 
 add-narrow : tie.Need-add-narrow
-add-narrow c = omega (arith, row-in (c .before .args .table .now) (c .before .args .row) (c .before .pre))
+add-narrow c = omega (arith, c .before .pre)
 
 narrow-requires : tie.Need-narrow-requires
 narrow-requires c κs = search needs

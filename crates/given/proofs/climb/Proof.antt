@@ -20,11 +20,6 @@ mul-number c =
     let s = c .before .before .before .before in
     omega (arith, loop .inv .low, s .pre .has .few)
 
-sub-number : tie.Need-sub-number Inv-loop μ-loop
-sub-number c =
-    let loop-test = c .loop-test in
-    omega (arith, loop-test .taken)
-
 number-requires : tie.Need-number-requires Inv-loop μ-loop
 number-requires c κs =
     let loop = c .before .loop in
@@ -62,7 +57,6 @@ climb-spec =
     μ-loop
     loop-holds
     mul-number
-    sub-number
     number-requires
     loop-less
     loop-again

@@ -1,4 +1,4 @@
--- `write_header` stores four numbers, one after the other. Assumes nothing.
+-- `write_header` stores six numbers, one after the other. Assumes nothing.
 use mathlib.Core.List.{[], _∷_}
 use native.Mathlib.Omega.{arith}
 use lib.ListN.{length-set}
@@ -33,13 +33,20 @@ cast-table-3 : tie.Need-cast-table-3
 cast-table-3 c = search needs
 
 slice-write-table-4 : tie.Need-slice-write-table-4
-slice-write-table-4 c = search needs
+slice-write-table-4 c = simp length-set (omega arith)
+
+slice-write-table-5 : tie.Need-slice-write-table-5
+slice-write-table-5 c = simp length-set (omega arith)
+
+slice-write-table-6 : tie.Need-slice-write-table-6
+slice-write-table-6 c = simp length-set (omega arith)
 
 same-length : tie.Need-same-length
 same-length c = search needs
 
 returns : tie.Need-returns
-returns c = sets-eq (c .args .n ∷ c .args .kept ∷ 4 ∷ used (c .args .n) ∷ []) (c .args .table .now) 0 (c .pre .2)
+returns c =
+    sets-eq (c .args .n ∷ c .args .kept ∷ 6 ∷ used (c .args .n) ∷ c .args .typ ∷ c .args .kind ∷ []) (c .args .table .now) 0 (c .pre .2)
 
 pub write-header-spec : {M : Type 1} → statement M
 write-header-spec =
@@ -54,5 +61,7 @@ write-header-spec =
     add-table
     cast-table-3
     slice-write-table-4
+    slice-write-table-5
+    slice-write-table-6
     same-length
     returns)

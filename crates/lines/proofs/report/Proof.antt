@@ -37,8 +37,8 @@ returns : tie.Need-returns
 returns c = let s = c .before .before .before .before .before .before .before .before .before .before .before .before .before .before .before in reported-refused (s .args .kind) (s .args .message .now) (s .args .out .now) (c .before .before .before .before .before .before .before .before .before .before .decide .ensures) (c .before .before .before .before .before .before .if1 .taken) (c .before .before .said .ensures)
 
 -- with room for the rows of any message, the decision is ready for its lines
-module _ (k : ℕ) (m : List ℕ) {rows rows′ : List ℕ} {d : Decision} (x : Decided k m rows 6136 d rows′) (room : 6132 ≡ length rows) (ok : d .verdict .code ≡ 0) where
-  is-ready : Ready k m rows′ 6136 d
+module _ (k : ℕ) (m : List ℕ) {rows rows′ : List ℕ} {d : Decision} (x : Decided k m rows 6138 d rows′) (room : 6132 ≡ length rows) (ok : d .verdict .code ≡ 0) where
+  is-ready : Ready k m rows′ 6138 d
   is-ready = ready k m x ok (omega (arith, most-rows k m x))
 
 cast-count : tie.Need-cast-count

@@ -1,32 +1,21 @@
--- `desk` meets its contract: the span is the desk's, which lies in the message and in the copy. Assumes nothing.
-use native.Mathlib.Omega.{arith}
-use borrow.Author.Needs.{needs}
+-- `desk` meets its contract: it counts the table's rows for that message on that kind. Assumes nothing.
 use lib.ListN.{length}
-use Rattle.lookup.proofs.Spans.{InBoth, desk-within}
+use borrow.Author.Needs.{needs}
+use Rattle.lookup.proofs.Tables.{rows-in}
+use Rattle.lookup.proofs.Spans.{own-desk}
 use Rattle.lookup.proofs.desk.Statement.{statement}
 use Rattle.lookup.proofs.desk.Tie as tie
 
-within : (c : tie.After-desk-span)
-    → InBoth (length (c .before .before .before .before .args .message .now)) (length (c .before .before .before .before .args .copy .now))
-    (c .desk-span .result)
-within c =
-    let a = c .before .before .before .before .args in
-    rw (c .desk-span .ensures) (desk-within (a .row) (length (a .message .now)) (length (a .copy .now)) (a .table .now))
+rows-requires : tie.Need-rows-requires
+rows-requires c κs = search needs
 
-desk-span-requires : tie.Need-desk-span-requires
-desk-span-requires c κs = search needs
-
-part-requires : tie.Need-part-requires
-part-requires c κs = omega (arith, within (c .before))
+desk-part-requires : tie.Need-desk-part-requires
+desk-part-requires c κs = rw (c .rows .ensures) (rows-in _ _ _)
 
 returns : tie.Need-returns
-returns c = rw (← (c .before .before .desk-span .ensures), c .before .if1 .taken) (c .part .ensures)
-
-part-requires-2 : tie.Need-part-requires-2
-part-requires-2 c κs = omega (arith, within (c .before))
-
-returns-2 : tie.Need-returns-2
-returns-2 c = rw (← (c .before .before .desk-span .ensures), c .before .if1 .left) (c .part2 .ensures)
+returns c =
+    let a = c .before .before .before .before .before .args in
+    rw (← (own-desk (a .kind) (a .message .now) (a .table .now) (a .row) (length (a .copy .now))), ← (c .before .rows .ensures)) (c .desk-part .ensures)
 
 pub desk-spec : {M : Type 1} → statement M
-desk-spec = tie.close (tie.spec desk-span-requires part-requires returns part-requires-2 returns-2)
+desk-spec = tie.close (tie.spec rows-requires desk-part-requires returns)

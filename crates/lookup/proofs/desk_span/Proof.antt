@@ -12,7 +12,7 @@ nowhere-requires c κs = search needs
 returns : tie.Need-returns
 returns c =
     let a = c .before .before .before .args in
-    c .nowhere .ensures ∙ apart (a .row) (a .message) (a .copy) (a .table .now) (λ e. omega arith)
+    c .nowhere .ensures ∙ apart (a .count) (a .row) (a .message) (a .copy) (a .table .now) (λ e. omega arith)
 
 row-span-requires : tie.Need-row-span-requires
 row-span-requires c κs = search needs
@@ -20,7 +20,7 @@ row-span-requires c κs = search needs
 returns-2 : tie.Need-returns-2
 returns-2 c =
     let a = c .before .before .before .args in
-    c .row-span .ensures ∙ alike (a .row) (a .message) (a .copy) (a .table .now) (omega arith)
+    c .row-span .ensures ∙ alike (a .count) (a .row) (a .message) (a .copy) (a .table .now) (omega arith)
 
 pub desk-span-spec : {M : Type 1} → statement M
 desk-span-spec = tie.close (tie.spec nowhere-requires returns row-span-requires returns-2)

@@ -6,22 +6,19 @@ use Rattle.lookup.proofs.Spans.{no-row, outside, inside}
 use Rattle.lookup.proofs.row_span.Statement.{statement}
 use Rattle.lookup.proofs.row_span.Tie as tie
 
-rows-requires : tie.Need-rows-requires
-rows-requires c κs = search needs
-
 nowhere-requires : tie.Need-nowhere-requires
 nowhere-requires c κs = search needs
 
 returns : tie.Need-returns
 returns c =
-    let a = c .before .before .before .before .args in
-    c .nowhere .ensures ∙ no-row (a .table .now) (a .row) (a .size) (omega (arith, c .before .before .rows .ensures))
+    let a = c .before .before .before .args in
+    c .nowhere .ensures ∙ no-row (a .count) (a .table .now) (a .row) (a .size) (c .before .if1 .taken)
 
 number-requires : tie.Need-number-requires
-number-requires c κs = search needs
+number-requires c κs = record { row-there = c .before .before .pre _ (c .if1 .left); of-row = omega arith }
 
 number-requires-2 : tie.Need-number-requires-2
-number-requires-2 c κs = search needs
+number-requires-2 c κs = record { row-there = c .before .before .before .pre _ (c .before .if1 .left); of-row = omega arith }
 
 add-if2 : tie.Need-add-if2
 add-if2 c = search needs
@@ -31,20 +28,19 @@ nowhere-requires-2 c κs = search needs
 
 returns-2 : tie.Need-returns-2
 returns-2 c =
-    let a = c .before .before .before .before .before .before .before .args in
-    c .nowhere2 .ensures ∙ outside (a .table .now) (a .row) (a .size) (omega arith) (omega arith)
+    let a = c .before .before .before .before .before .before .args in
+    c .nowhere2 .ensures ∙ outside (a .count) (a .table .now) (a .row) (a .size) (omega arith) (omega arith)
 
 returns-3 : tie.Need-returns-3
 returns-3 c =
-    let a = c .before .before .before .before .before .before .args in
+    let a = c .before .before .before .before .before .args in
     rw (c .before .before .number .ensures .is, c .before .number2 .ensures .is)
-    (inside (a .table .now) (a .row) (a .size) (omega arith) (omega arith))
+    (inside (a .count) (a .table .now) (a .row) (a .size) (omega arith) (omega arith))
 
 pub row-span-spec : {M : Type 1} → statement M
 row-span-spec =
     tie.close
     (tie.spec
-    rows-requires
     nowhere-requires
     returns
     number-requires

@@ -1,31 +1,25 @@
--- `rows` meets its contract: it tests what the definition does, and 4 + 6 × a 16-bit number is far from wrapping. Assumes nothing.
-use mathlib.Core.Path.{_∙_}
+-- `rows` meets its contract: a table of the message has the rows that it says, and any other none. Assumes nothing.
+use mathlib.Core.Path.{sym, _∙_}
 use native.Mathlib.Omega.{arith}
 use borrow.Author.Needs.{needs}
-use Rattle.lookup.proofs.Tables.{no-header, no-rows, whole}
+use Rattle.lookup.proofs.Tables.{of-whole, all-rows, no-rows}
 use Rattle.lookup.proofs.rows.Statement.{statement}
 use Rattle.lookup.proofs.rows.Tie as tie
 
-returns : tie.Need-returns
-returns c = no-header (c .before .before .args .table .now) (c .if1 .taken)
+is-of-requires : tie.Need-is-of-requires
+is-of-requires c κs = search needs
 
 shared-slice-read-wide : tie.Need-shared-slice-read-wide
-shared-slice-read-wide c = search needs
+shared-slice-read-wide c = omega (arith, of-whole _ _ _ (sym (c .before .before .is-of .ensures) ∙ c .before .if1 .taken) .long)
 
 wide-requires : tie.Need-wide-requires
 wide-requires c κs = search needs
 
-mul-if2 : tie.Need-mul-if2
-mul-if2 c = search needs
-
-add-if2 : tie.Need-add-if2
-add-if2 c = search needs
+returns : tie.Need-returns
+returns c = c .wide .ensures .is ∙ all-rows _ _ _ (sym (c .before .before .before .is-of .ensures) ∙ c .before .before .if1 .taken)
 
 returns-2 : tie.Need-returns-2
-returns-2 c = no-rows (c .before .before .before .before .before .args .table .now) (omega arith) (omega arith)
-
-returns-3 : tie.Need-returns-3
-returns-3 c = c .before .wide .ensures .is ∙ whole (c .before .before .before .before .before .args .table .now) (omega arith) (omega arith)
+returns-2 c = no-rows _ _ _ (sym (c .before .is-of .ensures) ∙ c .if1 .left)
 
 pub rows-spec : {M : Type 1} → statement M
-rows-spec = tie.close (tie.spec returns shared-slice-read-wide wide-requires mul-if2 add-if2 returns-2 returns-3)
+rows-spec = tie.close (tie.spec is-of-requires shared-slice-read-wide wide-requires returns returns-2)

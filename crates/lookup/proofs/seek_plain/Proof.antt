@@ -1,27 +1,22 @@
 -- `seek_plain` meets its contract. The invariant: nothing is found yet and the rows left decide, or the first is found and none is left. Assumes nothing.
-use mathlib.Core.Path.{_≡_, ap, _∙_}
 use Prim.Native.Nat.{_-_}
 use native.Mathlib.Omega.{arith}
 use borrow.Author.Needs.{needs}
-use Rattle.rules.specs.Values.{seekPlain}
 use Rattle.lookup.proofs.Seeking.{Searching, begins, goes-on, ended, less}
 use Rattle.lookup.proofs.seek_plain.Statement.{statement}
 use Rattle.lookup.proofs.seek_plain.Tie as tie
 
 abbrev Inv-loop : tie.InvT-loop
-Inv-loop typ inst table count found₀ row₀ found row = Searching table typ inst count found row
+Inv-loop count typ inst table found₀ row₀ found row = Searching table typ inst count found row
 
 abbrev μ-loop : tie.MeasureT-loop
-μ-loop typ inst table count found₀ row₀ found row = count - row
-
-rows-requires : tie.Need-rows-requires Inv-loop μ-loop
-rows-requires c κs = search needs
+μ-loop count typ inst table found₀ row₀ found row = count - row
 
 loop-holds : tie.Need-loop-holds Inv-loop μ-loop
 loop-holds c = begins _ _ _ _
 
 is-plain-requires : tie.Need-is-plain-requires Inv-loop μ-loop
-is-plain-requires c κs = omega (arith, c .before .before .rows .ensures)
+is-plain-requires c κs = c .before .before .before .pre _ (c .loop-test .taken)
 
 pick-requires : tie.Need-pick-requires Inv-loop μ-loop
 pick-requires c κs = search needs
@@ -40,9 +35,7 @@ loop-again c =
     goes-on _ _ _ _ (c .before .before .before .before .loop .inv) (c .before .before .before .loop-test .taken) (c .before .before .is-plain .result) (c .before .before .is-plain .ensures) (c .before .pick .ensures) (c .pick2 .ensures)
 
 returns : tie.Need-returns Inv-loop μ-loop
-returns c =
-    let a = c .before .before .before .before .args in
-    ended _ _ _ _ (c .before .loop .inv) (c .loop-test .left) ∙ ap (seekPlain (a .table .now) (a .typ) (a .inst) 0) (c .before .before .rows .ensures)
+returns c = ended _ _ _ _ (c .before .loop .inv) (c .loop-test .left)
 
 pub seek-plain-spec : {M : Type 1} → statement M
 seek-plain-spec =
@@ -50,7 +43,6 @@ seek-plain-spec =
     (tie.spec
     Inv-loop
     μ-loop
-    rows-requires
     loop-holds
     is-plain-requires
     pick-requires

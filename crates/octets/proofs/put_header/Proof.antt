@@ -1,4 +1,4 @@
--- `put_header` stores four numbers. Assumes nothing.
+-- `put_header` stores six numbers. Assumes nothing.
 use Rattle.octets.proofs.Tables.{header-stored}
 use borrow.Author.Needs.{needs}
 use Rattle.octets.proofs.put_header.Statement.{statement}
@@ -31,18 +31,26 @@ cast-put-3 c = search needs
 put-requires-4 : tie.Need-put-requires-4
 put-requires-4 c κs = search needs
 
+put-requires-5 : tie.Need-put-requires-5
+put-requires-5 c κs = search needs
+
+put-requires-6 : tie.Need-put-requires-6
+put-requires-6 c κs = search needs
+
 same-length : tie.Need-same-length
 same-length c = search needs
 
 returns : tie.Need-returns
 returns c =
-    let p4 = c .before .before in
+    let p6 = c .before .before in
+    let p5 = p6 .before .before .before .before in
+    let p4 = p5 .before .before .before .before in
     let p3 = p4 .before .before .before .before in
     let p2 = p3 .before .before .before .before in
     let p1 = p2 .before .before .before .before in
     let s = p1 .before .before .before in
-    rw (p4 .put4 .ensures, p3 .put3 .ensures, p2 .put2 .ensures, p1 .put .ensures)
-    (header-stored (s .args .n) (s .args .kept) (s .args .table .now) (s .pre .2))
+    rw (p6 .put6 .ensures, p5 .put5 .ensures, p4 .put4 .ensures, p3 .put3 .ensures, p2 .put2 .ensures, p1 .put .ensures)
+    (header-stored (s .args .n) (s .args .kept) (s .args .typ) (s .args .kind) (s .args .table .now) (s .pre .2))
 
 pub put-header-spec : {M : Type 1} → statement M
 put-header-spec =
@@ -57,5 +65,7 @@ put-header-spec =
     add-put
     cast-put-3
     put-requires-4
+    put-requires-5
+    put-requires-6
     same-length
     returns)

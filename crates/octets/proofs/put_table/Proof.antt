@@ -8,18 +8,18 @@ use Rattle.octets.proofs.put_table.Tie as tie
 
 returns : tie.Need-returns
 unfolding misfit
-returns c = unstored (c .before .before .before .args .rows .now) (c .before .before .before .args .n) (c .before .before .before .args .kept) (c .before .before .before .args .table .now) (simp (lt-ltb _ _ (c .if1 .taken)))
+returns c = unstored (c .before .before .before .args .rows .now) (c .before .before .before .args .n) (c .before .before .before .args .kept) (c .before .before .before .args .typ) (c .before .before .before .args .kind) (c .before .before .before .args .table .now) (simp (lt-ltb _ _ (c .if1 .taken)))
 
 returns-2 : tie.Need-returns-2
 unfolding misfit
-returns-2 c = unstored (c .before .before .before .before .args .rows .now) (c .before .before .before .before .args .n) (c .before .before .before .before .args .kept) (c .before .before .before .before .args .table .now) (simp (le-ltb _ _ (c .before .if1 .left), lt-ltb _ _ (c .if2 .taken)))
+returns-2 c = unstored (c .before .before .before .before .args .rows .now) (c .before .before .before .before .args .n) (c .before .before .before .before .args .kept) (c .before .before .before .before .args .typ) (c .before .before .before .before .args .kind) (c .before .before .before .before .args .table .now) (simp (le-ltb _ _ (c .before .if1 .left), lt-ltb _ _ (c .if2 .taken)))
 
 mul-if3 : tie.Need-mul-if3
 mul-if3 c = search needs
 
 returns-3 : tie.Need-returns-3
 unfolding misfit
-returns-3 c = unstored (c .before .before .before .before .before .args .rows .now) (c .before .before .before .before .before .args .n) (c .before .before .before .before .before .args .kept) (c .before .before .before .before .before .args .table .now) (simp (le-ltb _ _ (c .before .before .if1 .left), le-ltb _ _ (c .before .if2 .left), lt-ltb _ _ (c .if3 .taken)))
+returns-3 c = unstored (c .before .before .before .before .before .args .rows .now) (c .before .before .before .before .before .args .n) (c .before .before .before .before .before .args .kept) (c .before .before .before .before .before .args .typ) (c .before .before .before .before .before .args .kind) (c .before .before .before .before .before .args .table .now) (simp (le-ltb _ _ (c .before .before .if1 .left), le-ltb _ _ (c .before .if2 .left), lt-ltb _ _ (c .if3 .taken)))
 
 mul-if4 : tie.Need-mul-if4
 mul-if4 c = search needs
@@ -32,7 +32,7 @@ mul-if4-2 c = search needs
 
 returns-4 : tie.Need-returns-4
 unfolding misfit
-returns-4 c = unstored (c .before .before .before .before .before .before .args .rows .now) (c .before .before .before .before .before .before .args .n) (c .before .before .before .before .before .before .args .kept) (c .before .before .before .before .before .before .args .table .now) (simp (le-ltb _ _ (c .before .before .before .if1 .left), le-ltb _ _ (c .before .before .if2 .left), le-ltb _ _ (c .before .if3 .left), lt-ltb _ _ (c .if4 .taken)))
+returns-4 c = unstored (c .before .before .before .before .before .before .args .rows .now) (c .before .before .before .before .before .before .args .n) (c .before .before .before .before .before .before .args .kept) (c .before .before .before .before .before .before .args .typ) (c .before .before .before .before .before .before .args .kind) (c .before .before .before .before .before .before .args .table .now) (simp (le-ltb _ _ (c .before .before .before .if1 .left), le-ltb _ _ (c .before .before .if2 .left), le-ltb _ _ (c .before .if3 .left), lt-ltb _ _ (c .if4 .taken)))
 
 put-header-requires : tie.Need-put-header-requires
 put-header-requires c κs = search needs
@@ -50,7 +50,7 @@ returns-5 : tie.Need-returns-5
 returns-5 c =
     let h = c .before .before .before .before .before .before in
     let s = h .before .before .before .before .before .before .before .before in
-    stored (s .args .rows .now) (s .args .n) (s .args .kept) (s .args .table .now) (h .before .before .before .before .before .if1 .left) (h .before .before .before .before .if2 .left) (h .before .before .before .if3 .left) (h .before .before .if4 .left) (h .put-header .ensures) (c .before .before .put-rows .ensures)
+    stored (s .args .rows .now) (s .args .n) (s .args .kept) (s .args .typ) (s .args .kind) (s .args .table .now) (h .before .before .before .before .before .if1 .left) (h .before .before .before .before .if2 .left) (h .before .before .before .if3 .left) (h .before .before .if4 .left) (h .put-header .ensures) (c .before .before .put-rows .ensures)
 
 pub put-table-spec : {M : Type 1} → statement M
 put-table-spec =

@@ -1,4 +1,4 @@
--- `head` stores four numbers, one after the other. Assumes nothing.
+-- `head` stores six numbers, one after the other. Assumes nothing.
 use mathlib.Core.List.{[], _∷_}
 use native.Mathlib.Omega.{arith}
 use lib.ListN.{length-set}
@@ -33,13 +33,34 @@ cast-table-3 : tie.Need-cast-table-3
 cast-table-3 c = search needs
 
 slice-write-table-4 : tie.Need-slice-write-table-4
-slice-write-table-4 c = search needs
+slice-write-table-4 c = simp length-set (omega arith)
+
+slice-write-table-5 : tie.Need-slice-write-table-5
+slice-write-table-5 c = simp length-set (omega arith)
+
+slice-write-table-6 : tie.Need-slice-write-table-6
+slice-write-table-6 c = search needs
 
 same-length : tie.Need-same-length
 same-length c = search needs
 
 returns : tie.Need-returns
-returns c = sets-eq (headOf (c .before .before .before .args .d)) (c .before .before .before .args .table .now) 0 (c .before .before .before .pre .fits)
+returns c = let a = c .before .before .before .args in sets-eq (headOf (a .d) (a .typ) (a .kind)) (a .table .now) 0 (c .before .before .before .pre .fits)
 
 pub head-spec : {M : Type 1} → statement M
-head-spec = tie.close (tie.spec cast-table slice-write-table cast-table-2 slice-write-table-2 slice-write-table-3 mul-table add-table cast-table-3 slice-write-table-4 same-length returns)
+head-spec =
+    tie.close
+    (tie.spec
+    cast-table
+    slice-write-table
+    cast-table-2
+    slice-write-table-2
+    slice-write-table-3
+    mul-table
+    add-table
+    cast-table-3
+    slice-write-table-4
+    slice-write-table-5
+    slice-write-table-6
+    same-length
+    returns)

@@ -1,4 +1,4 @@
--- `list` writes the counts before the rows. Assumes nothing.
+-- `list` writes the header before the rows. Assumes nothing.
 use native.Mathlib.Omega.{arith}
 use Rattle.showing.proofs.Listing.{headed, listed}
 use borrow.Author.Needs.{needs}
@@ -17,14 +17,39 @@ part-decide-end c = search needs
 decide-requires : tie.Need-decide-requires
 decide-requires c κs = search needs
 
+octet-at-requires : tie.Need-octet-at-requires
+octet-at-requires c κs = search needs
+
+cast-typ : tie.Need-cast-typ
+cast-typ c = search needs
+
+narrow-requires : tie.Need-narrow-requires
+narrow-requires c κs = search needs
+
 head-requires : tie.Need-head-requires
-head-requires c κs = let s = c .before .before .before .before .before .before .before .args in headed (s .table .now) (c .before .before .before .before .before .before .before .pre) (s .kind) (s .message .now) (c .before .before .before .decide .ensures)
+head-requires c κs =
+    let s = c .before .before .before .before .before .before .before .before .before in
+    headed (s .args .table .now) (s .pre) (s .args .kind) (s .args .message .now) (c .before .before .before .before .before .decide .ensures)
 
 same-length : tie.Need-same-length
 same-length c = search needs
 
 returns : tie.Need-returns
-returns c = let s = c .before .before .before .before .before .before .before .before .before .before .before .args in listed (s .table .now) (c .before .before .before .before .before .before .before .before .before .before .before .pre) (s .kind) (s .message .now) (c .before .before .before .before .before .before .before .decide .ensures) (c .before .before .before .head .ensures)
+returns c =
+    let s = c .before .before .before .before .before .before .before .before .before .before .before .before .before in
+    listed (s .args .table .now) (s .pre) (s .args .kind) (s .args .message .now) (c .before .before .before .before .before .before .before .before .before .decide .ensures) (c .before .before .before .before .before .before .octet-at .ensures) (c .before .before .before .before .before .narrow .ensures) (c .before .before .before .head .ensures)
 
 pub list-spec : {M : Type 1} → statement M
-list-spec = tie.close (tie.spec sub-decide part-decide-start part-decide-end decide-requires head-requires same-length returns)
+list-spec =
+    tie.close
+    (tie.spec
+    sub-decide
+    part-decide-start
+    part-decide-end
+    decide-requires
+    octet-at-requires
+    cast-typ
+    narrow-requires
+    head-requires
+    same-length
+    returns)

@@ -7,7 +7,7 @@ use Rattle.showing.proofs.table_room.Statement.{statement}
 use Rattle.showing.proofs.table_room.Tie as tie
 
 returns : tie.Need-returns
-returns c = record { is = refl; size = sym (length-replicate {A = ℕ} 6136 0) }
+returns c = record { is = refl; size = sym (length-replicate {A = ℕ} 6138 0) }
 
 pub table-room-spec : {M : Type 1} → statement M
 table-room-spec = tie.close (tie.spec returns)

@@ -1,8 +1,9 @@
 //! Builds made of one accepted message: as it is, told in another way, or with
 //! one fault.
 
-use super::{is_group, Build, Row};
+use super::{is_group, Build};
 use crate::generate::random::Random;
+use crate::generate::tables::{make_old, Row, KIND, TYPE};
 use crate::generate::Case;
 use crate::DOCUMENT;
 
@@ -10,7 +11,7 @@ type Shape = fn(&mut Random, &mut Build);
 
 /// On the rows of a cleaned copy. What comes of each by itself: first those that
 /// stay acceptable, then 1 and 7, then 14, then what may be 16 or nothing.
-const OF_KEPT: [Shape; 31] = [
+const OF_KEPT: [Shape; 35] = [
     as_it_is,
     moved,
     other_group_numbers,
@@ -22,7 +23,11 @@ const OF_KEPT: [Shape; 31] = [
     other_kind,
     other_type,
     kind_and_type,
+    kind_and_table,
     type_and_table,
+    old_table,
+    tiny_table,
+    tiny_table_with_faults,
     any_number,
     header_number,
     cut_table,
@@ -205,26 +210,73 @@ fn overfilled(_: &mut Random, build: &mut Build) {
     fill(build, DOCUMENT.sizes.longest + 1);
 }
 
+/// A kind beside those that there are, and kinds past an octet.
 fn other_kind(random: &mut Random, build: &mut Build) {
-    build.head.kind = *random.pick(&[0, 4, 257, u32::MAX]);
+    let own = build.table[KIND];
+    build.table[KIND] = *random.pick(&[0, 4, own + 256, own | 1 << 15, u16::MAX]);
 }
 
 /// Another listed type, one that is not listed, and types past an octet.
 fn other_type(random: &mut Random, build: &mut Build) {
-    let own = build.head.typ;
+    let own = build.table[TYPE];
     let listed = random.pick(&DOCUMENT.messages).typ;
     let any = random.octet();
-    build.head.typ = *random.pick(&[own + 256, own + 65_536, own | 1 << 31, 256, u32::MAX, any.into(), listed.into()]);
+    let types = [
+        own + 256,
+        own | 1 << 15,
+        256,
+        u16::MAX,
+        any.into(),
+        listed.into(),
+    ];
+    build.table[TYPE] = *random.pick(&types);
+}
+
+fn unlisted_type(random: &mut Random, build: &mut Build) {
+    let own = build.table[TYPE];
+    build.table[TYPE] = *random.pick(&[0, 3, 70, 256, own + 256]);
 }
 
 fn kind_and_type(random: &mut Random, build: &mut Build) {
     other_kind(random, build);
-    build.head.typ |= 256;
+    unlisted_type(random, build);
+}
+
+/// A bad kind, and a table that is not short of its header.
+fn kind_and_table(random: &mut Random, build: &mut Build) {
+    other_kind(random, build);
+    standing_uncounted(random, build);
 }
 
 fn type_and_table(random: &mut Random, build: &mut Build) {
-    build.head.typ = *random.pick(&[0, 3, 70, 256]);
+    unlisted_type(random, build);
     cut_table(random, build);
+}
+
+/// A table with a header of four, and perhaps some numbers after it.
+fn old_table(random: &mut Random, build: &mut Build) {
+    make_old(&mut build.table);
+    for _ in 0..random.below(4) {
+        build.table.push(random.number() as u16);
+    }
+}
+
+/// No more than a header, of rows or of none; the whole one more often.
+fn tiny_table(random: &mut Random, build: &mut Build) {
+    if random.percent(50) {
+        build.put_rows(&[]);
+    }
+    let header = DOCUMENT.sizes.table_header;
+    build
+        .table
+        .truncate(random.between(0, header + 2).min(header));
+}
+
+/// The same of a bad kind, of a bad type, or of both.
+fn tiny_table_with_faults(random: &mut Random, build: &mut Build) {
+    let faults: [Shape; 3] = [other_kind, unlisted_type, kind_and_type];
+    random.pick(&faults)(random, build);
+    tiny_table(random, build);
 }
 
 /// Any number by one, or any other.
@@ -242,7 +294,8 @@ fn any_number(random: &mut Random, build: &mut Build) {
 
 fn header_number(random: &mut Random, build: &mut Build) {
     let at = random.below(DOCUMENT.sizes.table_header);
-    let by = *random.pick(&[1, 2, 6, u16::MAX]);
+    // By two less they are those of a header of four.
+    let by = *random.pick(&[1, 2, 6, u16::MAX, u16::MAX - 1]);
     build.table[at] = build.table[at].wrapping_add(by);
 }
 

@@ -2,8 +2,9 @@
 //! of depth; and of every message type.
 
 use super::small::small;
-use super::{Build, Row};
+use super::Build;
 use crate::generate::random::Random;
+use crate::generate::tables::{table_of, Row, TYPE};
 use crate::{Head, DOCUMENT};
 
 /// The most rows whose numbers a header can count in 16 bits.
@@ -15,7 +16,7 @@ pub fn types(random: &mut Random) -> Vec<Build> {
     let types = 0..=256 + 97;
     let build = |typ| {
         let mut build = small(random);
-        build.head.typ = typ;
+        build.table[TYPE] = typ;
         build.put_rows(&[[0, 3, 0, 0, 1, 0]]);
         build
     };
@@ -24,20 +25,15 @@ pub fn types(random: &mut Random) -> Vec<Build> {
 
 pub fn limits(random: &mut Random) -> Vec<Build> {
     let values = random.octets(16);
+    let kind = random.kind() as u16;
     let head = Head {
-        kind: random.kind(),
-        typ: 1,
         teid: random.number() as u32,
         sequence: random.number() as u32 >> 8,
     };
-    let build = |rows: Vec<Row>| {
-        let mut build = Build {
-            head,
-            table: Vec::new(),
-            values: values.clone(),
-        };
-        build.put_rows(&rows);
-        build
+    let build = |rows: Vec<Row>| Build {
+        head,
+        table: table_of(1, kind, &rows),
+        values: values.clone(),
     };
     let most = DOCUMENT.sizes.most_rows;
     let restart: Row = [0, 3, 0, 0, 1, 0];
@@ -53,7 +49,7 @@ pub fn limits(random: &mut Random) -> Vec<Build> {
         build(vec![empty; most]),
         build(vec![empty; most + 1]),
         build(vec![empty; MOST_COUNTED]),
-        // Of these the header says 65,536 cut to 16 bits.
+        // Of these the header says 65,538 cut to 16 bits.
         build(vec![empty; MOST_COUNTED + 1]),
         build(nested(most)),
         build(nested(most + 1)),

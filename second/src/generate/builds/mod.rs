@@ -8,12 +8,12 @@ mod small;
 use super::compose::compose;
 use super::lend::{around, ANSWERS};
 use super::random::Random;
+use super::tables::{self, table_of, Row, KIND, TYPE};
 use super::{Case, Generator};
 use crate::rules::Message;
-use crate::table::COLUMNS;
 use crate::{Head, DOCUMENT};
 
-/// All that one message is built from.
+/// All that one message is built from; its type and kind are in the table.
 #[derive(Debug, Clone, PartialEq, Eq)]
 pub struct Build {
     pub head: Head,
@@ -30,9 +30,6 @@ pub struct Rooms {
     pub answer: usize,
 }
 
-/// The numbers of one row.
-type Row = [u16; COLUMNS];
-
 impl Build {
     /// What a message is rebuilt from: its own numbers and rows, with itself as
     /// the values.
@@ -40,7 +37,7 @@ impl Build {
         let Case { kind, message } = case;
         let rows = DOCUMENT.rows(*kind, message).unwrap_or_default();
         let mut table = vec![0; DOCUMENT.used(rows.len())];
-        DOCUMENT.write_table(&rows, &mut table);
+        DOCUMENT.write_table(*kind, message, &rows, &mut table);
         let number = |at: usize| u32::from_be_bytes([0, 1, 2, 3].map(|more| message[at + more]));
         let teid = message[0] & DOCUMENT.bits.teid != 0;
         let (teid, sequence) = match teid {
@@ -48,12 +45,7 @@ impl Build {
             false => (0, number(4) >> 8),
         };
         Self {
-            head: Head {
-                kind: *kind,
-                typ: message[1].into(),
-                teid,
-                sequence,
-            },
+            head: Head { teid, sequence },
             table,
             values: message.clone(),
         }
@@ -69,25 +61,21 @@ impl Build {
     }
 
     fn rows(&self) -> &[Row] {
-        self.table[DOCUMENT.sizes.table_header..].as_chunks().0
+        tables::rows(&self.table)
     }
 
     fn rows_mut(&mut self) -> &mut [Row] {
-        self.table[DOCUMENT.sizes.table_header..].as_chunks_mut().0
+        self.table[DOCUMENT.sizes.first_row..].as_chunks_mut().0
     }
 
     /// Takes these rows, with a header that agrees with them where one can.
     fn put_rows(&mut self, rows: &[Row]) {
-        let kept = rows.iter().filter(|row| row[5] == 0).count();
-        let used = DOCUMENT.used(rows.len());
-        let header = [rows.len(), kept, DOCUMENT.sizes.table_header, used];
-        self.table = header.map(|number| number as u16).to_vec();
-        self.table.extend(rows.as_flattened());
+        self.table = table_of(self.table[TYPE], self.table[KIND], rows);
     }
 
     /// The octets that the message would have.
     pub fn need(&self) -> usize {
-        DOCUMENT.build_need(self.head, &self.table)
+        DOCUMENT.build_need(&self.table)
     }
 
     /// Lengths of lent rooms: one short, exact, longer, and none. No room is much

@@ -1,7 +1,8 @@
 //! Small tables by chance, most of them sound.
 
-use super::{Build, Row};
+use super::Build;
 use crate::generate::random::Random;
+use crate::generate::tables::{table_of, Row};
 use crate::{Head, DOCUMENT};
 
 /// Types of rows: those that small messages demand, groups, and some others.
@@ -10,23 +11,23 @@ const MOST_ROWS: usize = 6;
 const VALUES: usize = 12;
 
 pub fn small(random: &mut Random) -> Build {
-    let mut build = Build {
-        head: Head {
-            kind: random.kind(),
-            typ: random.pick(&DOCUMENT.messages).typ.into(),
-            teid: random.number() as u32,
-            sequence: random.number() as u32 >> 8,
-        },
-        table: Vec::new(),
-        values: random.octets(VALUES),
+    let kind = random.kind() as u16;
+    let typ = random.pick(&DOCUMENT.messages).typ.into();
+    let head = Head {
+        teid: random.number() as u32,
+        sequence: random.number() as u32 >> 8,
     };
+    let values = random.octets(VALUES);
     let mut rows = Vec::new();
     for _ in 0..random.below(MOST_ROWS + 1) {
         let row = row(random, &rows);
         rows.push(row);
     }
-    build.put_rows(&rows);
-    build
+    Build {
+        head,
+        table: table_of(typ, kind, &rows),
+        values,
+    }
 }
 
 fn row(random: &mut Random, before: &[Row]) -> Row {

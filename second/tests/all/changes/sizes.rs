@@ -4,6 +4,7 @@ use std::ops::RangeInclusive;
 
 use super::Shown::{self, Builds, Lookups, Octets, Program};
 use super::{Changes, ON_ALL};
+use second::rules::{Told, STANDINGS};
 use second::{Rules, DOCUMENT};
 
 /// The range with one of its ends moved by one.
@@ -16,12 +17,29 @@ fn around(first: usize, last: usize) -> [RangeInclusive<usize>; 4] {
     ]
 }
 
+/// The same with its figures by one, and as they were with a header of four.
+fn figures_beside(told: Told) -> Vec<Told> {
+    match told {
+        Told::First(place) => [place - 1, place + 1, 4].map(Told::First).to_vec(),
+        Told::Used { beside, row } => {
+            let used = |(beside, row)| Told::Used { beside, row };
+            let others = [(beside - 1, row), (beside + 1, row), (4, row)];
+            let others = others
+                .into_iter()
+                .chain([(beside, row - 1), (beside, row + 1)]);
+            others.map(used).collect()
+        }
+        _ => Vec::new(),
+    }
+}
+
 impl Changes {
     pub fn of_sizes(&mut self) {
         self.of_kinds();
         self.of_bits();
         self.of_octets();
         self.of_table();
+        self.of_header();
     }
 
     fn of_kinds(&mut self) {
@@ -66,6 +84,9 @@ impl Changes {
         self.size("uncounted", &[Octets, Builds], |rules| {
             &mut rules.sizes.uncounted
         });
+        self.size("type octet", &[Octets, Lookups], |rules| {
+            &mut rules.sizes.type_octet
+        });
         self.size("longest", &[Octets, Program, Builds], |rules| {
             &mut rules.sizes.longest
         });
@@ -77,6 +98,13 @@ impl Changes {
         self.size("header numbers", &[Octets, Lookups, Builds], |rules| {
             &mut rules.sizes.table_header
         });
+        self.size("first row", &[Octets, Lookups, Builds], |rules| {
+            &mut rules.sizes.first_row
+        });
+        self.push("sizes", "header numbers 4".into(), ON_ALL, |rules| {
+            rules.sizes.table_header = 4;
+        })
+        .shown_by(&[Octets, Lookups, Builds]);
         self.size("numbers a row", &[Octets, Lookups, Builds], |rules| {
             &mut rules.sizes.row
         });
@@ -93,6 +121,47 @@ impl Changes {
         })
         .shown_by(&[Program])
         .silent_where(true, "no message has more elements than that");
+    }
+
+    /// What each number of the header tells, and what is counted as kept.
+    fn of_header(&mut self) {
+        let header = &DOCUMENT.table.header;
+        for (at, &own) in header.iter().enumerate() {
+            for &other in header.iter().filter(|&&other| other != own) {
+                self.told(at, other);
+            }
+            for other in figures_beside(own) {
+                self.told(at, other);
+            }
+            for (later, other) in header.iter().enumerate().skip(at + 1) {
+                let name = format!("{own:?} and {other:?} exchanged");
+                self.header(name, |rules| rules.table.header.swap(at, later));
+            }
+        }
+        for standing in 1..STANDINGS as u16 {
+            let name = format!("standing {standing} counted as kept");
+            self.header(name, |rules| rules.table.kept = standing);
+        }
+    }
+
+    fn told(&mut self, at: usize, other: Told) {
+        let name = format!("{other:?} for {:?}", DOCUMENT.table.header[at]);
+        self.header(name, |rules| rules.table.header[at] = other);
+    }
+
+    /// Judge and lookups have to show it each, and so has the builder, unless it
+    /// takes rows for kept rows and nothing else is wrong.
+    fn header(&mut self, name: String, change: impl Fn(&mut Rules)) {
+        let class = "header of a table";
+        let read = self.push(class, name.clone(), ON_ALL, &change);
+        read.shown_by(&[Octets, Lookups]);
+        let rows_for_kept = [[Told::Rows, Told::Rows], [Told::Kept, Told::Rows]];
+        let (counts, others) = read.rules.table.header.split_at(2);
+        let silent = rows_for_kept.iter().any(|header| header == counts)
+            && others == &DOCUMENT.table.header[2..];
+        let built = self.push(class, name, ON_ALL, change);
+        let why = "what is built has every row kept, so that rows and kept rows are one number";
+        built.shown_by(&[Builds]).silent_where(silent, why);
     }
 
     /// A figure by one either way.
