@@ -1,12 +1,15 @@
 /*
  * Wokshimmer: judges, masks, cleans and builds GTPv2-C messages (3GPP TS 29.274).
  *
- * All four functions answer for every input and ask only this of their caller:
+ * Two libraries: libwokshimmer.a has wok_judge, wok_mask, wok_clean and wok_build; libwokpieces.a has wok_start, wok_part and wok_end, which judge a
+ * message that comes in parts. Either is linked without the other.
+ * All seven functions answer for every input and ask only this of their caller:
  *   - each pointer is valid for the length that follows it, in octets; NULL is fine with length 0;
- *   - a buffer that is written (the judge's table, copy, five, clean, room, answer) overlaps nothing else that is passed.
- *   - what is read (the message; the builder's table and values) does not change during a call, as a ring's buffer does that is refilled
+ *   - a buffer that is written (the table that is judged into, copy, five, clean, room, answer, state) overlaps nothing else that is passed.
+ *   - what is read (the message or its part; the builder's table and values) does not change during a call, as a ring's buffer does that is refilled
  *     while it is read.
- * They keep nothing between calls, allocate nothing, call nothing but memset and memcpy, and may be called from several threads at once.
+ * They keep nothing between calls but what stands in the state and the table, allocate nothing, call nothing but memset and memcpy, and may be called
+ * from several threads at once.
  * For x86-64 alone. Stack: under 15 KiB a call, under 18 KiB for wok_build; and on the first call about 2 KiB more where the loader binds names
  * late.
  */
@@ -36,13 +39,14 @@ extern "C" {
 #define WOK_UNKNOWN_MESSAGE 7u    /* the message type is not listed */
 #define WOK_WRONG_T 8u            /* T is wrong for the message type */
 #define WOK_BAD_FRAMING 9u        /* an element does not lie in what its level has left; place */
-#define WOK_TABLE_SHORT 10u       /* judge: the table is too short for the rows */
+#define WOK_TABLE_SHORT 10u       /* judge, end: the table is too short for the rows */
 #define WOK_MANDATORY_SHORT 11u   /* a mandatory element is short; place, type, instance */
 #define WOK_MANDATORY_MISSING 12u /* a mandatory element is missing; place of the level, type, instance */
 #define WOK_COPY_SHORT 13u        /* the buffer is too short for the copy: mask the message's length, clean the cleaned copy's */
 #define WOK_NO_TABLE 14u          /* build: table, values or sequence number are not those of a message */
 #define WOK_TOO_LARGE 15u         /* build: the message would pass 4,096 octets or the room */
 #define WOK_NOT_WHOLE 16u         /* build: the message would not be accepted with every row kept */
+#define WOK_NOT_TAKEN 17u         /* part, end: the end has been, or the table has another length than at the start; and any state that is too short */
 
 /* Reply causes: the second of the five numbers, or 0. */
 #define WOK_CAUSE_INVALID_LENGTH 67u
@@ -63,6 +67,7 @@ extern "C" {
 #define WOK_FIVE_OCTETS 10u       /* code, cause, place, type, instance */
 #define WOK_ANSWER_OCTETS 12u     /* clean, build: the five numbers, and the length of what was written */
 #define WOK_LARGEST_SEQUENCE 16777215u
+#define WOK_STATE_OCTETS 208u     /* start, part, end: what is known of a message between its parts */
 
 /*
  * Judges a message. Answers the code. On acceptance the table holds its header and one row an element, in octet order, depth first;
@@ -111,6 +116,37 @@ uint16_t wok_clean(uint32_t kind, const uint8_t *message, size_t message_len, ui
  */
 uint16_t wok_build(uint32_t teid, uint32_t sequence, const uint8_t *table, size_t table_len, const uint8_t *values, size_t values_len, uint8_t *room,
                    size_t room_len, uint8_t *answer, size_t answer_len);
+
+/*
+ * The judge for a message that comes in parts, as a ring of buffers has it: a start, the parts in their order, an end. A part may have one octet,
+ * or none. However the octets are cut, the end answers what wok_judge does of all of them one behind the other. No octet need be kept for it: a
+ * part's buffer may be filled anew after the call.
+ * Between start and end state and table are the functions' own, and are passed on as the last call left them; both are plain octets, and may be moved.
+ * With other octets in them a call still answers something, 17 among it, and writes nothing but state, table and five.
+ */
+
+/*
+ * Starts a message, whatever was going on in the state. Makes every number of the table zero; an odd last octet stays. Answers 0, for any
+ * kind: one that is none is told at the end. But with fewer than WOK_STATE_OCTETS of state it answers 17 and writes nothing. Octets of the state past
+ * these stay, here and below.
+ */
+uint16_t wok_start(uint32_t kind, uint8_t *state, size_t state_len, uint8_t *table, size_t table_len);
+
+/*
+ * Takes the next octets of the message. Answers 0, and five zeros: nothing is told of the message before its end. Octets past
+ * WOK_LARGEST_MESSAGE are counted and not looked at.
+ * Answers 17 where the end has been, where the table holds more or fewer 16-bit numbers than at the start, or with a state that is too short; then
+ * state and table stay as they were, and the message may go on with the right ones. A caller looks at this: a part that was not taken and is not
+ * given again is missing from the message. The five numbers as in wok_judge, with 17 too.
+ */
+uint16_t wok_part(uint8_t *state, size_t state_len, const uint8_t *part, size_t part_len, uint8_t *table, size_t table_len, uint8_t *five, size_t five_len);
+
+/*
+ * Ends the message. Answers the code, 0 to 12. On acceptance the table is what wok_judge makes of one that is all
+ * zero; on a refusal every number of it is zero. After that every part and end answers 17 until the next start.
+ * Answers 17 where wok_part does. The five numbers as there.
+ */
+uint16_t wok_end(uint8_t *state, size_t state_len, uint8_t *table, size_t table_len, uint8_t *five, size_t five_len);
 
 #ifdef __cplusplus
 }

@@ -1,6 +1,6 @@
 /*
- * Judge, mask, clean and build on a thread with a small stack, on buffers of exact size that end right before a page that may not be touched and
- * then on ones that start right after such a page. Run from the folder that holds samples/.
+ * Judge, mask, clean, build and the pieces form on a thread with a small stack, on buffers of exact size that end right before a page that may not be
+ * touched and then on ones that start right after such a page. Run from the folder that holds samples/.
  */
 #define _DEFAULT_SOURCE
 
@@ -21,13 +21,15 @@
 #define MOST_A_LEVEL 512u
 #define USED 3u /* the header's number that says how many are used */
 
-enum { JUDGE, MASK, CLEAN, BUILD, FUNCTIONS };
+enum { JUDGE, MASK, CLEAN, BUILD, START, PART, END, FUNCTIONS };
 
 typedef uint16_t function(uint32_t, const uint8_t *, size_t, uint8_t *, size_t, uint8_t *, size_t);
 static function *const functions[BUILD] = {wok_judge, wok_mask, wok_clean};
-static const char *const names[FUNCTIONS] = {"judge", "mask", "clean", "build"};
-static const size_t number_octets[FUNCTIONS] = {WOK_FIVE_OCTETS, WOK_FIVE_OCTETS, WOK_ANSWER_OCTETS, WOK_ANSWER_OCTETS};
-static const size_t said[FUNCTIONS] = {15 * 1024, 15 * 1024, 15 * 1024, 18 * 1024}; /* the stack of a call, as the header has it */
+static const char *const names[FUNCTIONS] = {"judge", "mask", "clean", "build", "start", "part", "end"};
+/* a start answers its code alone */
+static const size_t number_octets[FUNCTIONS] = {WOK_FIVE_OCTETS, WOK_FIVE_OCTETS, WOK_ANSWER_OCTETS, WOK_ANSWER_OCTETS, 0, WOK_FIVE_OCTETS, WOK_FIVE_OCTETS};
+/* the stack of a call, as the header has it */
+static const size_t said[FUNCTIONS] = {15 * 1024, 15 * 1024, 15 * 1024, 18 * 1024, 15 * 1024, 15 * 1024, 15 * 1024};
 
 /* What the builder has besides, of the message that it is to make again. */
 struct head {
@@ -36,10 +38,16 @@ struct head {
     size_t table_len;
 };
 
+/* What is lent as the state of a message in parts. */
+struct state {
+    uint8_t *octets;
+    size_t len;
+};
+
 struct call {
     int which;
     uint32_t kind;
-    const uint8_t *message; /* the builder's values */
+    const uint8_t *message; /* the builder's values; a part */
     size_t message_len;
     uint8_t *out;
     size_t out_len;
@@ -49,13 +57,15 @@ struct call {
     size_t used;    /* octets of the stack, from the caller's frame down to the lowest one written */
     size_t written; /* how many of these were written; the others were set aside only */
     size_t left;    /* octets of the stack below these */
+    size_t whole;   /* octets of the message that this is about */
 };
 
-static uint8_t *stack, *message_room, *table_room, *out_room, *numbers_room;
-static struct head head; /* of the builder's next call */
+static uint8_t *stack, *message_room, *table_room, *out_room, *numbers_room, *state_room;
+static struct head head;   /* of the builder's next call */
+static struct state state; /* of the next call of the pieces form */
 static size_t most_used[2][FUNCTIONS], most_written[2][FUNCTIONS]; /* by larger */
 static size_t least_left = STACK_OCTETS;
-static unsigned passed, failed, rebuilt;
+static unsigned passed, failed, rebuilt, in_parts;
 
 static void fail(const char *what) {
     perror(what);
@@ -83,14 +93,22 @@ static uint8_t *exact(uint8_t *room, size_t len, int at_end) {
     return at_end ? room + ROOM - len : room;
 }
 
+static uint16_t called(const struct call *c) {
+    switch (c->which) {
+    case BUILD:
+        return wok_build(head.teid, head.sequence, head.table, head.table_len, c->message, c->message_len, c->out, c->out_len, c->numbers,
+                         c->numbers_len);
+    case START: return wok_start(c->kind, state.octets, state.len, c->out, c->out_len);
+    case PART: return wok_part(state.octets, state.len, c->message, c->message_len, c->out, c->out_len, c->numbers, c->numbers_len);
+    case END: return wok_end(state.octets, state.len, c->out, c->out_len, c->numbers, c->numbers_len);
+    default: return functions[c->which](c->kind, c->message, c->message_len, c->out, c->out_len, c->numbers, c->numbers_len);
+    }
+}
+
 static void *on_small_stack(void *argument) {
     struct call *c = argument;
     volatile uint8_t frame = 0;
-    if (c->which == BUILD)
-        c->code = wok_build(head.teid, head.sequence, head.table, head.table_len, c->message, c->message_len, c->out, c->out_len,
-                            c->numbers, c->numbers_len);
-    else
-        c->code = functions[c->which](c->kind, c->message, c->message_len, c->out, c->out_len, c->numbers, c->numbers_len);
+    c->code = called(c);
     size_t top = (size_t)((uintptr_t)&frame - (uintptr_t)stack);
     while (c->left < top && stack[c->left] == PATTERN) c->left++;
     c->used = top - c->left;
@@ -105,7 +123,7 @@ static void run(struct call *c) {
     if (pthread_attr_init(&small) != 0 || pthread_attr_setstack(&small, stack, STACK_OCTETS) != 0) fail("stack");
     if (pthread_create(&thread, &small, on_small_stack, c) != 0 || pthread_join(thread, NULL) != 0) fail("thread");
     pthread_attr_destroy(&small);
-    int larger = c->message_len > SMALL_MESSAGE;
+    int larger = c->whole > SMALL_MESSAGE;
     if (c->used > most_used[larger][c->which]) most_used[larger][c->which] = c->used;
     if (c->written > most_written[larger][c->which]) most_written[larger][c->which] = c->written;
     if (c->left < least_left) least_left = c->left;
@@ -121,7 +139,7 @@ struct given {
 
 /* Runs a call on exact buffers filled with the pattern; the message's room is for reading only meanwhile. */
 static struct call on_exact(int which, const struct given *g, size_t out_len, size_t numbers_len) {
-    struct call c = {which, g->kind, NULL, g->len, NULL, out_len, NULL, numbers_len, 0, 0, 0, 0};
+    struct call c = {which, g->kind, NULL, g->len, NULL, out_len, NULL, numbers_len, 0, 0, 0, 0, g->len};
     uint8_t *own = exact(message_room, g->len, g->at_end);
     if (g->len != 0) memcpy(own, g->message, g->len);
     c.message = own;
@@ -261,6 +279,112 @@ static void build_exact(const struct given *g, const unsigned five[5]) {
     try_call(BUILD, g, 0, too_large, 0);
 }
 
+/* One call of the pieces form, with so many octets of the message from there on as its part. State and table are as the last call left them, and
+   the part's room is for reading only meanwhile. */
+static struct call in_feed(int which, const struct given *g, size_t from, size_t len, size_t table_len) {
+    struct call c = {which, g->kind, NULL, len, NULL, table_len, NULL, number_octets[which], 0, 0, 0, 0, g->len};
+    uint8_t *own = exact(message_room, len, g->at_end);
+    if (len != 0) memcpy(own, g->message + from, len);
+    c.message = own;
+    c.out = exact(out_room, table_len, g->at_end);
+    c.numbers = exact(numbers_room, c.numbers_len, g->at_end);
+    memset(numbers_room, PATTERN, ROOM);
+    if (mprotect(message_room, ROOM, PROT_READ) != 0) fail("read only");
+    run(&c);
+    if (mprotect(message_room, ROOM, PROT_READ | PROT_WRITE) != 0) fail("read and write");
+    return c;
+}
+
+/* Are the numbers these five, all of them where they belong? A start answers its code alone. */
+static int answers(const struct call *c, const unsigned five[5]) {
+    int same = c->code == five[0] && rest_stays(numbers_room, c->numbers, number_octets[c->which]);
+    for (size_t i = 0; c->which != START && i < 5; i++) same = same && number(c->numbers, i) == five[i];
+    return same;
+}
+
+/* Was nothing written but the table's numbers and the state's own octets? */
+static int keeps_within(const struct call *c) {
+    return rest_stays(out_room, c->out, c->out_len / 2 * 2) && rest_stays(state_room, state.octets, WOK_STATE_OCTETS);
+}
+
+static void check_feed(const char *name, const struct call *c, const unsigned five[5]) {
+    check(answers(c, five), name, names[c->which]);
+    check(keeps_within(c), name, "a write outside the table's numbers or the state");
+}
+
+/* Table and state as they were before a call. */
+static uint8_t table_before[ROOM], state_before[ROOM];
+
+static void keep_both(void) {
+    memcpy(table_before, out_room, ROOM);
+    memcpy(state_before, state_room, ROOM);
+}
+
+static int both_stay(void) {
+    return memcmp(table_before, out_room, ROOM) == 0 && memcmp(state_before, state_room, ROOM) == 0;
+}
+
+/* A call that is not taken: state and table stay, whatever was lent. */
+static void try_not_taken(int which, const struct given *g, size_t len, size_t table_len, size_t state_len, const char *what) {
+    static const unsigned not_taken[5] = {WOK_NOT_TAKEN};
+    struct state own = state;
+    keep_both();
+    state.len = state_len;
+    struct call c = in_feed(which, g, 0, len, table_len);
+    state = own;
+    check(answers(&c, not_taken) && both_stay(), g->name, what);
+}
+
+static int all_zero(const uint8_t *octets, size_t len) {
+    while (len > 0 && octets[len - 1] == 0) len--;
+    return len == 0;
+}
+
+/* A message in parts, each at the edge of a page, in a table of that length: the end says and leaves what a judge does in a table of zeros. */
+static void feed_exact(const struct given *g, size_t table_len, size_t state_len) {
+    static const size_t sizes[] = {1, 0, 2, 1, 5, 64, 300, WOK_LARGEST_MESSAGE + 1};
+    static const unsigned zeros[5];
+    static uint8_t expected[WOK_TABLE_OCTETS];
+    unsigned five[5];
+    struct call c = on_exact(JUDGE, g, table_len, WOK_FIVE_OCTETS);
+    for (size_t i = 0; i < 5; i++) five[i] = number(c.numbers, i);
+    memset(expected, 0, sizeof expected);
+    if (c.code == WOK_ACCEPTED) memcpy(expected, c.out, 2 * number(c.out, USED));
+
+    memset(out_room, PATTERN, ROOM);
+    memset(state_room, PATTERN, ROOM);
+    state = (struct state){exact(state_room, state_len, g->at_end), state_len};
+    try_not_taken(START, g, 0, table_len, WOK_STATE_OCTETS - 1, "a start with a state that is too short");
+    c = in_feed(START, g, 0, 0, table_len);
+    check_feed(g->name, &c, zeros);
+    check(all_zero(c.out, table_len / 2 * 2), g->name, "a table that is not zero at the start");
+    size_t from = 0;
+    for (size_t i = 0; i < sizeof sizes / sizeof sizes[0]; i++) {
+        size_t len = sizes[i] < g->len - from ? sizes[i] : g->len - from;
+        c = in_feed(PART, g, from, len, table_len);
+        check_feed(g->name, &c, zeros);
+        if (i == 3) try_not_taken(PART, g, len, table_len + 2, state_len, "a part with another table");
+        from += len;
+    }
+    try_not_taken(END, g, 0, table_len + 2, state_len, "an end with another table");
+    try_not_taken(END, g, 0, table_len, WOK_STATE_OCTETS - 1, "an end with a state that is too short");
+    c = in_feed(END, g, 0, 0, table_len);
+    check_feed(g->name, &c, five);
+    check(memcmp(c.out, expected, table_len / 2 * 2) == 0, g->name, "another table at the end");
+    try_not_taken(PART, g, g->len < 5 ? g->len : 5, table_len, state_len, "a part after the end");
+    try_not_taken(END, g, 0, table_len, state_len, "an end after the end");
+    in_parts++;
+}
+
+/* With the largest table, one that just holds the rows, and one octet less; where it is refused, with hardly any. */
+static void pieces_exact(const struct given *g) {
+    struct call c = on_exact(JUDGE, g, WOK_TABLE_OCTETS, WOK_FIVE_OCTETS);
+    size_t used = c.code == WOK_ACCEPTED ? 2 * number(c.out, USED) : 2;
+    feed_exact(g, WOK_TABLE_OCTETS, WOK_STATE_OCTETS);
+    feed_exact(g, used, WOK_STATE_OCTETS);
+    feed_exact(g, used - 1, WOK_STATE_OCTETS + 5);
+}
+
 static void try_message(const char *name, uint32_t kind, const uint8_t *message, size_t len, const unsigned five[5]) {
     for (int at_end = 1; at_end >= 0; at_end--) {
         struct given g = {name, kind, message, len, at_end};
@@ -268,6 +392,7 @@ static void try_message(const char *name, uint32_t kind, const uint8_t *message,
         mask_exact(&g, five);
         clean_exact(&g, five);
         build_exact(&g, five);
+        pieces_exact(&g);
     }
 }
 
@@ -354,7 +479,7 @@ static void try_all_built(void) {
 static void try_null(int which, const uint8_t *message, size_t len, int has_out, int has_numbers, uint16_t code, const char *what) {
     static uint8_t out[WOK_TABLE_OCTETS], numbers[WOK_ANSWER_OCTETS];
     uint8_t *lent = has_out ? out : NULL, *answered = has_numbers ? numbers : NULL;
-    struct call c = {which, WOK_KIND_S11, message, len, lent, has_out ? sizeof out : 0, answered, has_numbers ? number_octets[which] : 0, 0, 0, 0, 0};
+    struct call c = {which, WOK_KIND_S11, message, len, lent, has_out ? sizeof out : 0, answered, has_numbers ? number_octets[which] : 0, 0, 0, 0, 0, len};
     run(&c);
     check(c.code == code && (!has_numbers || number(numbers, 0) == code), names[which], what);
 }
@@ -377,6 +502,52 @@ static void try_nulls(void) {
     head.table = NULL, head.table_len = 0;
     try_null(BUILD, echo, sizeof echo, 1, 1, WOK_NO_TABLE, "NULL for the table");
     try_null(BUILD, NULL, 0, 0, 0, WOK_NO_TABLE, "NULL for all");
+}
+
+/* A NULL with length 0 for each pointer of the pieces form in turn. */
+static void try_null_pieces(void) {
+    static const uint8_t echo[] = {0x40, 1, 0, 9, 0, 0, 1, 0, 3, 0, 1, 0, 7};
+    static uint8_t own[WOK_STATE_OCTETS], table[WOK_TABLE_OCTETS], five[WOK_FIVE_OCTETS];
+    check(wok_start(1, NULL, 0, table, sizeof table) == WOK_NOT_TAKEN, "start", "NULL for the state");
+    check(wok_part(NULL, 0, echo, sizeof echo, table, sizeof table, five, sizeof five) == WOK_NOT_TAKEN, "part", "NULL for the state");
+    check(wok_end(NULL, 0, table, sizeof table, five, sizeof five) == WOK_NOT_TAKEN, "end", "NULL for the state");
+    check(wok_start(1, own, sizeof own, NULL, 0) == WOK_ACCEPTED, "start", "NULL for the table");
+    check(wok_part(own, sizeof own, echo, sizeof echo, NULL, 0, NULL, 0) == WOK_ACCEPTED, "part", "NULL for table and numbers");
+    check(wok_part(own, sizeof own, NULL, 0, NULL, 0, five, sizeof five) == WOK_ACCEPTED, "part", "NULL for the part");
+    check(wok_end(own, sizeof own, NULL, 0, NULL, 0) == WOK_TABLE_SHORT, "end", "NULL for table and numbers");
+    check(wok_start(1, own, sizeof own, table, sizeof table) == WOK_ACCEPTED, "start", "a second message");
+    check(wok_end(own, sizeof own, table, sizeof table, five, sizeof five) == WOK_BAD_SIZE, "end", "no part");
+}
+
+/* A number below a bound, the same in every run. */
+static size_t some(size_t bound) {
+    static uint32_t seed = 2024;
+    seed = seed * 1664525u + 1013904223u;
+    return (seed >> 8) % bound;
+}
+
+/* Parts and ends with states of any octets, and with ones of a message that was begun in which some were changed: each answers something, and
+   writes no octet that is not its own. */
+static void try_rubbish(void) {
+    static const uint8_t message[] = {0x48, 66, 0, 26, 0, 0, 0, 1, 0, 0, 2, 0, 93, 0, 5, 0, 73, 0, 1, 0, 5, 86, 0, 5, 0, 0x10, 1, 2, 3, 4};
+    for (unsigned turn = 0; turn < 1000; turn++) {
+        struct given g = {"rubbish for a state", WOK_KIND_S11, message, sizeof message, (int)(turn & 1)};
+        size_t table_len = some(90), len = some(sizeof message + 1);
+        memset(out_room, PATTERN, ROOM);
+        memset(state_room, PATTERN, ROOM);
+        state = (struct state){exact(state_room, WOK_STATE_OCTETS, g.at_end), WOK_STATE_OCTETS};
+        for (size_t i = 0; i < WOK_STATE_OCTETS; i++) state.octets[i] = (uint8_t)some(256);
+        if (turn & 2) {
+            (void)in_feed(START, &g, 0, 0, table_len);
+            (void)in_feed(PART, &g, 0, len, table_len);
+            for (size_t i = some(4); i > 0; i--) state.octets[some(WOK_STATE_OCTETS)] = (uint8_t)(turn & 4 ? some(256) : 255 * some(2));
+        }
+        keep_both();
+        struct call c = turn & 8 ? in_feed(PART, &g, 0, some(sizeof message + 1), table_len) : in_feed(END, &g, 0, 0, table_len);
+        int known = c.code == WOK_ACCEPTED || c.code == WOK_NOT_TAKEN || (c.which == END && c.code <= WOK_MANDATORY_MISSING);
+        check(known && number(c.numbers, 0) == c.code && rest_stays(numbers_room, c.numbers, WOK_FIVE_OCTETS), g.name, names[c.which]);
+        check(c.code == WOK_NOT_TAKEN ? both_stay() : keeps_within(&c), g.name, "a write where none may be");
+    }
 }
 
 /* What one level of the listings takes: a message with a kept group, against one without. */
@@ -404,15 +575,19 @@ int main(void) {
     table_room = guarded(ROOM);
     out_room = guarded(ROOM);
     numbers_room = guarded(ROOM);
+    state_room = guarded(ROOM);
     unsigned samples = try_samples();
     check(samples > 30, "samples", "too few");
     check(rebuilt > 50, "samples built again", "too few");
     try_all_built();
     try_kept();
     try_nulls();
+    try_null_pieces();
+    try_rubbish();
+    check(in_parts > 400, "messages in parts", "too few");
     check(least_left >= LEAST_LEFT, "stack", "too little is left");
     for (int f = 0; f < FUNCTIONS; f++) check(most_used[0][f] < said[f] && most_used[1][f] < said[f], names[f], "more stack than the header says");
-    printf("%u samples, %u times built again\n", samples, rebuilt);
+    printf("%u samples, %u times built again, %u times in parts\n", samples, rebuilt, in_parts);
     print_stack(0, "messages of up to 264 octets");
     print_stack(1, "larger messages");
     printf("stack: a level of the listings takes %zu octets in judge, ", level_octets(JUDGE));

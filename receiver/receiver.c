@@ -1,8 +1,8 @@
 /*
- * A receiver of GTPv2-C over UDP and IPv4: receiver [--answer] [PORT1 PORT2 PORT3]
+ * A receiver of GTPv2-C over UDP and IPv4: receiver [--answer] [--parts] [PORT1 PORT2 PORT3]
  *
- * Build it from the project's folder, after `rt staticlib wokshimmer` (receiver/build does this too):
- *   gcc -std=c99 -O2 -Iinclude -o receiver receiver/receiver.c target/staticlib/libwokshimmer.a -lpthread
+ * Build it from the project's folder, after `rt staticlib wokshimmer` and `rt staticlib wokpieces` (receiver/build does this too):
+ *   gcc -std=c99 -O2 -Iinclude -o receiver receiver/receiver.c target/staticlib/libwokshimmer.a target/staticlib/libwokpieces.a -lpthread
  *
  * One port a kind, S11, S4 and S5/S8; 0, and no ports at all, let the system choose. The first line names the ports. Every datagram is
  * judged, masked and cleaned; a line of counts comes every second and, on SIGTERM or SIGINT, a last one:
@@ -11,6 +11,7 @@
  *   dropped (datagrams that came and found the socket's buffer full)
  * With --answer each datagram is answered by the five numbers of the judge and of the mask, and by the cleaner's six. This is for tests,
  * so the receiver then listens on loopback only.
+ * With --parts a datagram is received into several small buffers and judged in these parts; answers and counts are the same.
  */
 #define _GNU_SOURCE
 
@@ -25,6 +26,7 @@
 #include <stdlib.h>
 #include <string.h>
 #include <sys/socket.h>
+#include <sys/uio.h>
 #include <time.h>
 
 #include "stack.h"
@@ -33,6 +35,8 @@
 #define KINDS 3
 #define CODES 14
 #define STOP_CHECK_MS 100
+#define PARTS 9
+#define LARGEST_PART 2184
 
 struct counts {
     unsigned long datagrams;
@@ -54,7 +58,12 @@ static uint8_t answer[2 * WOK_FIVE_OCTETS + WOK_ANSWER_OCTETS];
 static uint8_t *const mask_five = answer + WOK_FIVE_OCTETS;
 static uint8_t *const clean_answer = answer + 2 * WOK_FIVE_OCTETS;
 
-static int answers;
+/* The buffers of --parts: of odd sizes, two of them one octet, and together as long as message. */
+static const size_t part_sizes[PARTS] = {1, 3, 4, 9, 1, 64, 331, 1500, LARGEST_PART};
+static uint8_t parts[PARTS][LARGEST_PART];
+static uint8_t state[WOK_STATE_OCTETS];
+
+static int answers, in_parts;
 static struct pollfd ports[KINDS];
 
 /* Both are shared by the two threads, under the lock. */
@@ -84,13 +93,57 @@ static void count(uint16_t judged, uint16_t masked, uint16_t clean, size_t messa
     pthread_mutex_unlock(&lock);
 }
 
+/* How much of a datagram's rest stands in a buffer: none, if the buffers before it held all. */
+static size_t part_len(int part, size_t rest) {
+    return rest < part_sizes[part] ? rest : part_sizes[part];
+}
+
+/* Receives a datagram into the small buffers. */
+static ssize_t receive_parts(int port, struct sockaddr_in *sender, socklen_t *sender_len) {
+    struct iovec buffers[PARTS];
+    struct msghdr datagram;
+    for (int i = 0; i < PARTS; i++) buffers[i] = (struct iovec){parts[i], part_sizes[i]};
+    memset(&datagram, 0, sizeof datagram);
+    datagram.msg_name = sender;
+    datagram.msg_namelen = *sender_len;
+    datagram.msg_iov = buffers;
+    datagram.msg_iovlen = PARTS;
+    ssize_t received = recvmsg(port, &datagram, MSG_DONTWAIT);
+    *sender_len = datagram.msg_namelen;
+    return received;
+}
+
+/* Judges what the small buffers hold, one after the other; those past the datagram's end are empty parts. */
+static uint16_t judge_parts(uint32_t kind, size_t len) {
+    uint16_t code = wok_start(kind, state, sizeof state, table, sizeof table);
+    for (int i = 0; code == WOK_ACCEPTED && i < PARTS; i++) {
+        size_t own = part_len(i, len);
+        code = wok_part(state, sizeof state, parts[i], own, table, sizeof table, answer, WOK_FIVE_OCTETS);
+        len -= own;
+    }
+    return code == WOK_ACCEPTED ? wok_end(state, sizeof state, table, sizeof table, answer, WOK_FIVE_OCTETS) : code;
+}
+
+/* The small buffers one behind the other, for mask and clean, which want a message whole. */
+static void join_parts(size_t len) {
+    uint8_t *to = message;
+    for (int i = 0; i < PARTS; i++) {
+        size_t own = part_len(i, len);
+        memcpy(to, parts[i], own);
+        to += own;
+        len -= own;
+    }
+}
+
 static void take(int port, uint32_t kind) {
     struct sockaddr_in sender;
     socklen_t sender_len = sizeof sender;
-    ssize_t received = recvfrom(port, message, sizeof message, MSG_DONTWAIT, (struct sockaddr *)&sender, &sender_len);
+    ssize_t received = in_parts ? receive_parts(port, &sender, &sender_len)
+                                : recvfrom(port, message, sizeof message, MSG_DONTWAIT, (struct sockaddr *)&sender, &sender_len);
     if (received < 0) return; /* such as a datagram with a bad checksum */
     size_t len = (size_t)received;
-    uint16_t judged = wok_judge(kind, message, len, table, sizeof table, answer, WOK_FIVE_OCTETS);
+    uint16_t judged = in_parts ? judge_parts(kind, len) : wok_judge(kind, message, len, table, sizeof table, answer, WOK_FIVE_OCTETS);
+    if (in_parts) join_parts(len);
     uint16_t masked = wok_mask(kind, message, len, copy, sizeof copy, mask_five, WOK_FIVE_OCTETS);
     uint16_t clean = wok_clean(kind, message, len, cleaned, sizeof cleaned, clean_answer, WOK_ANSWER_OCTETS);
     count(judged, masked, clean, len);
@@ -183,11 +236,14 @@ static uint16_t port_number(const char *text) {
 }
 
 int main(int argc, char **argv) {
-    answers = argc > 1 && strcmp(argv[1], "--answer") == 0;
-    char **numbers = argv + 1 + answers;
-    int given = argc - 1 - answers;
+    char **numbers = argv + (argc > 0);
+    answers = *numbers != NULL && strcmp(*numbers, "--answer") == 0;
+    numbers += answers;
+    in_parts = *numbers != NULL && strcmp(*numbers, "--parts") == 0;
+    numbers += in_parts;
+    int given = argc - (int)(numbers - argv);
     if (given != 0 && given != KINDS) {
-        fprintf(stderr, "usage: receiver [--answer] [PORT1 PORT2 PORT3]\n");
+        fprintf(stderr, "usage: receiver [--answer] [--parts] [PORT1 PORT2 PORT3]\n");
         return 2;
     }
     unsigned opened[KINDS];

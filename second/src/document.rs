@@ -49,6 +49,7 @@ fn sizes() -> Sizes {
         row: 6,
         five: 10,
         answer: 12,
+        state: 208,
         most_rows: 1022,
     }
 }

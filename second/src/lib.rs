@@ -1,4 +1,5 @@
-//! Independent second program for the GTPv2-C judge, masker, cleaner and builder.
+//! Independent second program for the GTPv2-C judge, masker, cleaner, builder and
+//! for the judge's form that is fed in parts.
 //!
 //! It is written from the document alone and serves as a comparison, for
 //! correctness and for speed. `rules` is the shape of the rules and `document`
@@ -17,6 +18,7 @@ pub mod listings;
 mod lookup;
 mod mask;
 mod octets;
+mod pieces;
 mod program;
 pub mod rules;
 mod table;
@@ -25,6 +27,8 @@ pub mod walk;
 
 pub use build::Head;
 pub use document::DOCUMENT;
+pub use octets::State;
+pub use pieces::Pieces;
 pub use rules::Rules;
 pub use verdict::{Answer, Verdict};
 
@@ -46,6 +50,11 @@ pub fn clean(kind: u32, message: &[u8], clean: &mut [u8]) -> Answer {
 /// Writes the message of a table and a buffer of values.
 pub fn build(head: Head, table: &[u16], values: &[u8], room: &mut [u8]) -> Answer {
     DOCUMENT.build(head, table, values, room)
+}
+
+/// Begins a message that comes in parts; `Pieces` takes them, and the end.
+pub fn start(kind: u32, table: &mut [u16]) -> Pieces<'static> {
+    DOCUMENT.start(kind, table)
 }
 
 /// The judge for the C receiver.
@@ -72,6 +81,32 @@ pub fn build_octets(
     answer: &mut [u8],
 ) -> u16 {
     DOCUMENT.build_octets(head, table, values, room, answer)
+}
+
+/// The start of the pieces form for the C receiver.
+pub fn start_octets(
+    kind: u32,
+    state: &mut State<'static>,
+    state_len: usize,
+    table: &mut [u8],
+) -> u16 {
+    DOCUMENT.start_octets(kind, state, state_len, table)
+}
+
+/// A part for the C receiver.
+pub fn part_octets(
+    state: &mut State,
+    state_len: usize,
+    part: &[u8],
+    table: &mut [u8],
+    five: &mut [u8],
+) -> u16 {
+    DOCUMENT.part_octets(state, state_len, part, table, five)
+}
+
+/// The end for the C receiver.
+pub fn end_octets(state: &mut State, state_len: usize, table: &mut [u8], five: &mut [u8]) -> u16 {
+    DOCUMENT.end_octets(state, state_len, table, five)
 }
 
 /// The plain lookup; the empty part where there is none.

@@ -1,8 +1,14 @@
 //! The forms for the C receiver: numbers as octets, two each, high octet first.
 
 use crate::build::Head;
-use crate::rules::Rules;
+use crate::pieces::{Octets, Pieces};
+use crate::rules::{Check, Rules};
 use crate::verdict::{Answer, Verdict};
+
+/// What stands in place of the octets of a state: in C a buffer that a start
+/// writes, here the message itself. Each call is told how long that buffer is.
+#[derive(Debug, Clone, Default)]
+pub struct State<'r>(Option<Pieces<'r>>);
 
 impl Rules {
     /// The judge with its table and its five numbers as octets; answers the
@@ -59,6 +65,62 @@ impl Rules {
         let numbers = numbers.iter().map(|&number| u16::from_be_bytes(number));
         let table = numbers.collect::<Vec<_>>();
         self.put_answer(self.build(head, &table, values, room), answer)
+    }
+
+    /// The start of the pieces form; answers the code. A state that is too short
+    /// is left alone, and so is the table then; so is a table's odd last octet.
+    pub fn start_octets<'r>(
+        &'r self,
+        kind: u32,
+        state: &mut State<'r>,
+        state_len: usize,
+        table: &mut [u8],
+    ) -> u16 {
+        if state_len < self.sizes.state {
+            return self.refusal(Check::Ended).code;
+        }
+        *state = State(Some(self.start_in(kind, &mut Octets(table))));
+        Verdict::ACCEPTED.code
+    }
+
+    /// A part, with the five numbers as octets; answers the code.
+    pub fn part_octets(
+        &self,
+        state: &mut State,
+        state_len: usize,
+        part: &[u8],
+        table: &mut [u8],
+        five: &mut [u8],
+    ) -> u16 {
+        let verdict = match self.begun(state, state_len) {
+            Some(pieces) => pieces.part_in(part, &mut Octets(table)),
+            None => self.refusal(Check::Ended),
+        };
+        self.put_five(verdict, five)
+    }
+
+    /// The end, with the five numbers as octets; answers the code.
+    pub fn end_octets(
+        &self,
+        state: &mut State,
+        state_len: usize,
+        table: &mut [u8],
+        five: &mut [u8],
+    ) -> u16 {
+        let verdict = match self.begun(state, state_len) {
+            Some(pieces) => pieces.end_in(&mut Octets(table)),
+            None => self.refusal(Check::Ended),
+        };
+        self.put_five(verdict, five)
+    }
+
+    /// The message of a state that is long enough and was started.
+    fn begun<'s, 'r>(
+        &self,
+        state: &'s mut State<'r>,
+        state_len: usize,
+    ) -> Option<&'s mut Pieces<'r>> {
+        state.0.as_mut().filter(|_| state_len >= self.sizes.state)
     }
 
     /// Writes the five numbers where there is room for all of them.

@@ -142,6 +142,8 @@ pub struct Sizes {
     pub five: usize,
     /// The same for the five numbers and a length.
     pub answer: usize,
+    /// Octets that a buffer for the state of the pieces form needs.
+    pub state: usize,
     /// Rows that the judge program's table has room for.
     pub most_rows: usize,
 }
@@ -191,11 +193,12 @@ pub enum Check {
     Table = 14,
     Room = 15,
     Built = 16,
+    Ended = 17,
     /// 14 for a table without a whole header.
     TableHeader = 31,
 }
 
-pub const CODES: usize = 17;
+pub const CODES: usize = 18;
 
 impl Check {
     pub fn code(self) -> u16 {

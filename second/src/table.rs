@@ -16,14 +16,9 @@ impl Rules {
         let is_kept = |row: &&Row| row.standing as u16 == self.table.kept;
         let kept = rows.iter().filter(is_kept).count();
         let typ = message.get(self.sizes.type_octet).copied();
-        for (told, place) in self.table.header.iter().zip(&mut *table) {
-            let number = match *told {
-                Told::Type => usize::from(typ.unwrap_or_default()),
-                Told::Kind => kind as usize,
-                told => told.counted(rows.len(), kept).unwrap_or_default(),
-            };
-            // At most 1,022 rows and three kinds, so all of them fit 16 bits.
-            *place = number as u16;
+        let header = self.header(kind, typ.unwrap_or_default(), rows.len(), kept);
+        for (number, place) in header.zip(&mut *table) {
+            *place = number;
         }
         for (at, row) in rows.iter().enumerate() {
             let rest = table.get_mut(self.place_of(at)..);
@@ -31,6 +26,24 @@ impl Rules {
                 *place = numbers(row);
             }
         }
+    }
+
+    /// The header of a table with so many rows and kept ones.
+    pub(crate) fn header(
+        &self,
+        kind: u32,
+        typ: u8,
+        rows: usize,
+        kept: usize,
+    ) -> impl Iterator<Item = u16> + '_ {
+        let number = move |told: &Told| match *told {
+            Told::Type => usize::from(typ),
+            Told::Kind => kind as usize,
+            told => told.counted(rows, kept).unwrap_or_default(),
+        };
+        // At most 1,022 rows and three kinds, so all of them fit 16 bits.
+        let numbers = self.table.header.iter().map(number);
+        numbers.map(|number| number as u16)
     }
 
     /// What the header of a lent table tells, if it has the number.

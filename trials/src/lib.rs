@@ -1,7 +1,7 @@
 //! The proved library as Rust sees it: its C exports behind safe functions.
 
-use second::generate::{Buffers, Build, Case, Rooms};
-use second::Head;
+use second::generate::{Buffers, Build, Call as Fed, Case, Feed, Left, Rooms, What};
+use second::{Head, DOCUMENT};
 
 mod exports {
     extern "C" {
@@ -44,6 +44,18 @@ mod exports {
             answer: *mut u8,
             answer_len: usize,
         ) -> u16;
+        pub fn wok_start(kind: u32, state: *mut u8, state_len: usize, table: *mut u8, table_len: usize) -> u16;
+        pub fn wok_part(
+            state: *mut u8,
+            state_len: usize,
+            part: *const u8,
+            part_len: usize,
+            table: *mut u8,
+            table_len: usize,
+            five: *mut u8,
+            five_len: usize,
+        ) -> u16;
+        pub fn wok_end(state: *mut u8, state_len: usize, table: *mut u8, table_len: usize, five: *mut u8, five_len: usize) -> u16;
     }
 }
 
@@ -114,6 +126,43 @@ pub fn build(head: Head, table: &[u8], values: &[u8], room: &mut [u8], answer: &
     }
 }
 
+/// The start of the pieces form: the code is the result. It asks nothing of its caller.
+pub fn start(kind: u32, state: &mut [u8], table: &mut [u8]) -> u16 {
+    // SAFETY: as above.
+    unsafe { exports::wok_start(kind, state.as_mut_ptr(), state.len(), table.as_mut_ptr(), table.len()) }
+}
+
+/// A part: the code is the result. It asks nothing of its caller, and of the state least of all.
+pub fn part(state: &mut [u8], part: &[u8], table: &mut [u8], five: &mut [u8]) -> u16 {
+    // SAFETY: as above.
+    unsafe {
+        exports::wok_part(
+            state.as_mut_ptr(),
+            state.len(),
+            part.as_ptr(),
+            part.len(),
+            table.as_mut_ptr(),
+            table.len(),
+            five.as_mut_ptr(),
+            five.len(),
+        )
+    }
+}
+
+/// The end: as a part.
+pub fn end(state: &mut [u8], table: &mut [u8], five: &mut [u8]) -> u16 {
+    // SAFETY: as above.
+    unsafe { exports::wok_end(state.as_mut_ptr(), state.len(), table.as_mut_ptr(), table.len(), five.as_mut_ptr(), five.len()) }
+}
+
+/// Octets that a state needs.
+pub fn state_octets() -> usize {
+    DOCUMENT.sizes.state
+}
+
+/// The code of a part or an end that is not taken.
+pub const NOT_TAKEN: u16 = 17;
+
 /// Octets that show whether they were written over.
 fn filled(length: usize, seed: usize) -> Vec<u8> {
     let octet = |at: usize| (at.wrapping_mul(31).wrapping_add(seed.wrapping_mul(97)) % 251) as u8 | 1;
@@ -158,4 +207,56 @@ pub fn build_difference(what: &Build, lent: Rooms) -> Option<String> {
         (build(what.head, &table, &what.values, &mut room, &mut answer), room, answer)
     });
     (ours != theirs).then(|| format!("build: with {lent:?}: {} against {}", ours.0, theirs.0))
+}
+
+/// One call of the pieces form with octets for a state.
+fn fed(call: &Fed, state: &mut [u8], table: &mut [u8], five: &mut [u8]) -> u16 {
+    match call.what {
+        What::Start(kind) => start(kind, state, table),
+        What::Part(octets) => part(state, octets, table, five),
+        What::End => end(state, table, five),
+    }
+}
+
+/// What differs between the two programs in these calls, if anything does: answers, tables after a start and after an end, and what may not be
+/// written. A state that is not taken stays whole, and any stays past the octets that it needs.
+pub fn feed_difference(feed: &Feed) -> Option<String> {
+    let longest = feed.calls.iter().map(|call| call.state).max().unwrap_or(0);
+    let mut state = filled(longest + 3, feed.calls.len());
+    let mut spoilt = Vec::new();
+    let ours = feed.run(|call, table, five| {
+        let before = state.clone();
+        let code = fed(call, &mut state[..call.state], table, five);
+        let own = if code == NOT_TAKEN { 0 } else { state_octets() };
+        spoilt.push(state[own..] != before[own..]);
+        code
+    });
+    let theirs = feed.left_by(&DOCUMENT);
+    let differs = |at: &usize| spoilt[*at] || ours[*at] != theirs[*at];
+    let at = (0..feed.calls.len()).find(differs)?;
+    let [ours, theirs] = [&ours[at], &theirs[at]].map(|left: &Left| format!("{} {:?}", left.code, left.five));
+    let what = if spoilt[at] { "the state is written where it may not be, " } else { "" };
+    Some(format!("pieces, call {at} {:?}: {what}{ours} against {theirs}", feed.calls[at]))
+}
+
+/// What a call on a state of any octets does that it may not, if anything: it answers something, and writes no octet but of the state that it needs
+/// and of the table's numbers; where it is not taken, none.
+pub fn rubbish_fault(call: &Fed, state: &[u8], table: &[u8]) -> Option<String> {
+    let (state_len, table_len) = (call.state.min(state.len()), call.table.min(table.len()));
+    let (mut state_after, mut table_after, mut five) = (state.to_vec(), table.to_vec(), [0xEE; 13]);
+    let code = fed(call, &mut state_after[..state_len], &mut table_after[..table_len], &mut five);
+    let is_taken = code != NOT_TAKEN;
+    let (own, numbers) = if is_taken { (state_octets(), table_len / 2 * 2) } else { (0, 0) };
+    let codes = if matches!(call.what, What::End) { 0..=12 } else { 0..=0 };
+    let is_start = matches!(call.what, What::Start(_));
+    let told = if is_start { [0xEE, 0xEE] } else { code.to_be_bytes() };
+    let checks = [
+        ("no such code", !is_taken || codes.contains(&code)),
+        ("a short state is taken", !is_taken || state_len >= state_octets()),
+        ("the state is written where it may not be", state_after.get(own..) == state.get(own..)),
+        ("the table is written where it may not be", table_after[numbers..] == table[numbers..]),
+        ("the five numbers are not those of the code", five[..2] == told && five[10..] == [0xEE; 3]),
+    ];
+    let (what, _) = checks.iter().find(|(_, good)| !good)?;
+    Some(format!("{:?} answers {code}: {what}", call))
 }

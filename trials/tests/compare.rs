@@ -1,7 +1,7 @@
 //! The proved library against the second program: every answer and every lent octet, with buffers around each boundary.
 
-use second::generate::{Buffers, Build, builds, Case, figures, Generator};
-use trials::{build_difference, difference};
+use second::generate::{Buffers, Build, builds, Call, Case, Cut, figures, Generator, Random, What, CUTS};
+use trials::{build_difference, difference, feed_difference, rubbish_fault, state_octets};
 
 /// How often each code was met: of the judge with the largest table, of the cleaner with the buffers of the trials.
 #[derive(Debug, Default)]
@@ -156,4 +156,123 @@ fn every_octet_of_every_sample_changed() {
         threads.into_iter().map(|thread| thread.join().expect("no difference")).sum()
     });
     assert!(count > 100_000, "only {count} changes were tried");
+}
+
+/// Each case in parts, with the seeds that second/tests/all/pieces.rs gives the figures.
+fn compare_pieces(cases: impl IntoIterator<Item = Case>) {
+    for (seed, case) in cases.into_iter().enumerate() {
+        if let Some(what) = feed_difference(&case.feed(seed as u64)) {
+            panic!("{what}\n{}", second::lines::case_line(&case));
+        }
+    }
+}
+
+/// The feeds of which second/tests/all/pieces.rs shows that they see a form with any of the faults that it tries.
+#[test]
+fn pieces_of_every_figure() {
+    compare_pieces(figures());
+}
+
+#[test]
+fn pieces_of_ten_thousand_of_the_mix() {
+    let mut generator = Generator::new(2031);
+    compare_pieces((0..10_000).map(|turn| if turn % 3 == 0 { generator.damaged() } else { generator.case() }));
+}
+
+#[test]
+fn pieces_at_the_limits() {
+    let mut generator = Generator::new(1023);
+    compare_pieces((0..200).map(|_| generator.at_limit()));
+}
+
+/// Each sample on each kind in two parts, cut at each place, and in every other way.
+#[test]
+fn pieces_of_every_sample_cut_everywhere() {
+    let mut random = Random::new(7);
+    let mut count = 0;
+    for (name, message) in samples() {
+        for kind in 1..=3 {
+            let case = Case { kind, message: message.clone() };
+            let everywhere = (0..=message.len()).map(Cut::At);
+            for cut in everywhere.chain(CUTS) {
+                let is_enough = random.percent(75);
+                let feed = case.feed_cut(cut, is_enough, &mut random);
+                assert_eq!(feed_difference(&feed), None, "{name} on {kind}, {cut:?}");
+                count += 1;
+            }
+        }
+    }
+    assert!(count > 10_000, "only {count} cuts were tried");
+}
+
+/// C and Rust say it in a place each.
+#[test]
+fn pieces_have_one_length_of_a_state() {
+    let header = include_str!("../../include/wokshimmer.h");
+    let mut lines = header.lines().filter_map(|line| line.strip_prefix("#define WOK_STATE_OCTETS "));
+    let number = lines.next().and_then(|rest| rest.split('u').next());
+    assert_eq!(number, Some(state_octets().to_string().as_str()));
+}
+
+/// A good message and after it so many parts of 65,536 octets; the code at the end.
+fn with_more(parts: usize) -> u16 {
+    let message = [0x40, 1, 0, 9, 0, 0, 1, 0, 3, 0, 1, 0, 7];
+    let more = vec![0; 1 << 16];
+    let (mut state, mut table) = (vec![0xEE; state_octets()], vec![0xEE; 24]);
+    assert_eq!(trials::start(1, &mut state, &mut table), 0);
+    assert_eq!(trials::part(&mut state, &message, &mut table, &mut []), 0);
+    for _ in 0..parts {
+        assert_eq!(trials::part(&mut state, &more, &mut table, &mut []), 0);
+    }
+    let code = trials::end(&mut state, &mut table, &mut []);
+    assert!(code == 0 || table == [0; 24], "{table:?}");
+    code
+}
+
+/// The number of octets would be the message's own again, were it kept in 16 or in 32 bits.
+#[test]
+fn pieces_past_every_count() {
+    assert_eq!(with_more(0), 0);
+    assert_eq!(with_more(1), 2);
+    assert_eq!(with_more(1 << 16), 2);
+}
+
+/// Octets for a state: any, all alike, or those of a message that was begun, some of them changed.
+fn rubbish(random: &mut Random, generator: &mut Generator, table: &mut [u8]) -> Vec<u8> {
+    let length = state_octets() + random.below(12);
+    match random.below(5) {
+        0 => random.octets(length),
+        1 => vec![*random.pick(&[0, 1, 0x7F, 0x80, 0xFF]); length],
+        _ => {
+            let mut state = random.octets(length);
+            let case = generator.case();
+            trials::start(case.kind, &mut state, table);
+            let part = &case.message[..random.below(case.message.len() + 1)];
+            trials::part(&mut state, part, table, &mut []);
+            for _ in 0..random.below(6) {
+                let (at, any) = (random.below(state.len()), random.octet());
+                state[at] = *random.pick(&[0, 1, 0x7F, 0x80, 0xFF, any, state[at].wrapping_add(1)]);
+            }
+            state
+        }
+    }
+}
+
+#[test]
+fn pieces_with_rubbish_for_a_state() {
+    let (mut random, mut generator) = (Random::new(91), Generator::new(92));
+    let mut taken = 0;
+    for turn in 0..100_000 {
+        let numbers = *random.pick(&[0, 1, 5, 6, 12, 13, 30, 100, 400]);
+        let mut table = random.octets(2 * numbers + 3);
+        let state = rubbish(&mut random, &mut generator, &mut table[..2 * numbers]);
+        let part = generator.case().message;
+        let what = [What::Part(&part), What::Part(&part[..part.len().min(1)]), What::End, What::Start(1)][random.below(4)];
+        let lent = *random.pick(&[state.len(), state.len(), state.len(), state_octets(), state_octets() - 1, 0]);
+        let table_len = 2 * numbers + random.below(2) + 2 * usize::from(random.percent(10));
+        let call = Call { what, state: lent, table: table_len, five: 13 };
+        assert_eq!(rubbish_fault(&call, &state, &table), None, "turn {turn}");
+        taken += usize::from(trials::end(&mut state.clone(), &mut table[..2 * numbers], &mut []) != trials::NOT_TAKEN);
+    }
+    assert!(taken > 1_000, "only {taken} states were taken for a message");
 }

@@ -53,7 +53,7 @@ pub(crate) fn flag_t(head: &[u8]) -> bool
     head[0] / 8 % 2 == 1
 }
 
-pub(crate) fn length_field(head: &[u8]) -> usize
+pub fn length_field(head: &[u8]) -> usize
     requires { ⌜ 4 ≤ length (now head) ⌝ }
     ensures { λ r. ⌜ Field (now (head .entry)) r ⌝ }
 {

@@ -1,6 +1,6 @@
 -- The verdict on a reading, check by check, and that it is the judge's. Assumes nothing.
 --     given-refused, given-full, given-rest   by 1 to 9; by 10; by 11, by 12 or acceptance
---     decided-no, decided-yes   the verdict on its reading is the judge's          passed-on   on acceptance checks 1 to 8 passed
+--     verdict-is, decided-no, decided-yes   the verdict on its reading is the judge's          passed-on   on acceptance checks 1 to 8 passed
 use mathlib.Core.Path.{_≡_, refl, sym, _∙_}
 use mathlib.Core.Bool.{Bool, true, false, cond}
 use mathlib.Core.List.{List, [], _∷_}
@@ -45,7 +45,7 @@ module _ (k : ℕ) (m : List ℕ) where
   given-case room true e = rw e (sym (framing-first room ∙ rw e))
   given-case room false e = rw e (sym (framing-first room ∙ rw e))
 
-  verdict-is : {rows rows′ : List ℕ} (room : ℕ) {r : Reading} → Read k m rows r rows′ → given r room ≡ judgeVerdict book k m room
+  pub verdict-is : {rows rows′ : List ℕ} (room : ℕ) {r : Reading} → Read k m rows r rows′ → given r room ≡ judgeVerdict book k m room
   verdict-is room x = rw (x .answers) (given-case room (refuses (first (framingChecks book k m))) refl)
 
   pub decided-no : {rows rows′ : List ℕ} {room : ℕ} {r : Reading} → Read k m rows r rows′ → (v : Verdict) → v ≡ given r room → (v .code ≡ 0 → ⊥)

@@ -4,7 +4,7 @@ ghost use mathlib.Core.List.{[], _∷_, _++_};
 ghost use Prim.Native.Nat.{_+_, _≤_};
 ghost use lib.ListN.{length, drop};
 ghost use lib.Seq.{paste};
-ghost use Rattle.rules.specs.Sizes.{mostRows, used};
+ghost use Rattle.rules.specs.Sizes.{largestMessage, used};
 ghost use Rattle.rules.specs.Table.{numbersBy, laid};
 ghost use Rattle.rules.specs.Answers.{Decided, Judged};
 ghost use Rattle.judging.specs.Judging.{given, Writable, Settles, Settled};
@@ -13,8 +13,8 @@ use rules::Reading;
 use rules::Verdict;
 
 // The verdict on a reading, for a table of `room` numbers.
-fn verdict_on(r: Reading, room: usize) -> Verdict
-    requires { ⌜ r .rows ≤ mostRows ⌝ }
+pub fn verdict_on(r: Reading, room: usize) -> Verdict
+    requires { ⌜ r .rows ≤ largestMessage ⌝ }
     ensures { λ v. ⌜ v ≡ given r room ⌝ }
 {
     let refusal = r.refusal;
@@ -53,8 +53,8 @@ pub fn decide(kind: u32, message: &[u8], rows: &mut [u16], room: usize) -> Decis
 }
 
 // The header: rows, kept rows, place of the first row, numbers used, message type, kind.
-fn write_header(n: usize, kept: usize, typ: u16, kind: u16, table: &mut [u16])
-    requires { ⌜ (n ≤ mostRows) × (kept ≤ n) × (6 ≤ length (now table)) ⌝ }
+pub fn write_header(n: usize, kept: usize, typ: u16, kind: u16, table: &mut [u16])
+    requires { ⌜ (n ≤ largestMessage) × (kept ≤ n) × (6 ≤ length (now table)) ⌝ }
     ensures { λ _. ⌜ now (table .exit) ≡ (n ∷ kept ∷ 6 ∷ used n ∷ typ ∷ kind ∷ []) ++ drop 6 (now (table .entry)) ⌝ }
 {
     table[0] = n as u16;

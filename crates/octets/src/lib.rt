@@ -4,12 +4,13 @@ ghost use mathlib.Core.List.{[], _∷_, _++_};
 ghost use Prim.Native.Nat.{_+_, _*_, _<_, _≤_};
 ghost use lib.ListN.{length, drop};
 ghost use lib.Seq.{paste};
-ghost use Rattle.rules.specs.Sizes.{mostRows, used};
+ghost use Rattle.rules.specs.Sizes.{largestMessage, used};
 ghost use Rattle.rules.specs.Octets.{octetsOf, fiveLaid, answerLaid};
 ghost use Rattle.octets.specs.Stored.{put2, tableStored};
 use rules::Verdict;
 
-fn put(out: &mut [u8], at: usize, v: u16)
+// One number, at a place.
+pub fn put(out: &mut [u8], at: usize, v: u16)
     requires { ⌜ at + 1 < length (now out) ⌝ }
     ensures { λ _. ⌜ now (out .exit) ≡ put2 (now (out .entry)) at v ⌝ }
 {
@@ -43,8 +44,8 @@ pub fn put_answer(v: Verdict, length: u16, answer: &mut [u8])
 }
 
 // A table's header: rows, kept rows, place of the first row, numbers used, message type, kind.
-fn put_header(n: usize, kept: usize, typ: u16, kind: u16, table: &mut [u8])
-    requires { ⌜ (n ≤ mostRows) × (kept ≤ n) × (12 ≤ length (now table)) ⌝ }
+pub fn put_header(n: usize, kept: usize, typ: u16, kind: u16, table: &mut [u8])
+    requires { ⌜ (n ≤ largestMessage) × (kept ≤ n) × (12 ≤ length (now table)) ⌝ }
     ensures { λ _. ⌜ now (table .exit) ≡ octetsOf (n ∷ kept ∷ 6 ∷ used n ∷ typ ∷ kind ∷ []) ++ drop 12 (now (table .entry)) ⌝ }
 {
     put(table, 0, n as u16);

@@ -36,7 +36,7 @@ pub(crate) fn unpack(code: u16, cause: u16, f: usize) -> Verdict
     )
 }
 
-pub(crate) fn refused(v: Verdict) -> Reading
+pub fn refused(v: Verdict) -> Reading
     ensures { λ r. ⌜ r ≡ refusedReading v ⌝ }
 {
     Reading {
@@ -49,14 +49,14 @@ pub(crate) fn refused(v: Verdict) -> Reading
 }
 
 // A run that is cut at a place: 9.
-pub(crate) fn cut_at(place: usize) -> Verdict
+pub fn cut_at(place: usize) -> Verdict
     requires { ⌜ place ≤ 4096 ⌝ }
     ensures { λ r. ⌜ r ≡ refusedAt 9 67 place 0 0 ⌝ }
 {
     answers::refuse_at(9, 67, place as u16, 0, 0)
 }
 
-pub(crate) fn whole(counts: Counts) -> Reading
+pub fn whole(counts: Counts) -> Reading
     ensures { λ r. ⌜ r ≡ wholeReading counts ⌝ }
 {
     Reading {

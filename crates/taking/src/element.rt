@@ -99,7 +99,7 @@ pub(crate) fn count_one(counts: Counts, stand: u8, short: usize) -> Counts
 }
 
 // Six numbers at a row, if there is room for it.
-pub(crate) fn put_row(
+pub fn put_row(
     rows: &mut [u16],
     row: usize,
     parent: u16,

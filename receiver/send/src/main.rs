@@ -1,4 +1,4 @@
-//! `send RECEIVER`: starts the receiver on loopback, sends it generated datagrams and compares its
+//! `send RECEIVER [OPTION..]`: starts the receiver with these options on loopback, sends it generated datagrams and compares its
 //! answers and its counts with the second program's verdicts.
 
 mod cases;
@@ -21,11 +21,12 @@ const LONGEST_RUN: Duration = Duration::from_secs(20);
 type Outcome<T> = Result<T, Box<dyn std::error::Error>>;
 
 fn main() -> ExitCode {
-    let Some(program) = std::env::args().nth(1) else {
-        eprintln!("usage: send RECEIVER");
+    let words: Vec<String> = std::env::args().skip(1).collect();
+    let Some((program, options)) = words.split_first() else {
+        eprintln!("usage: send RECEIVER [OPTION..]");
         return ExitCode::from(2);
     };
-    let (passed, failed) = run(&program).unwrap_or_else(|error| {
+    let (passed, failed) = run(program, options).unwrap_or_else(|error| {
         println!("send: {error}");
         (0, 1)
     });
@@ -33,10 +34,10 @@ fn main() -> ExitCode {
     ExitCode::from(u8::from(failed != 0))
 }
 
-fn run(program: &str) -> Outcome<(u32, u32)> {
+fn run(program: &str, options: &[String]) -> Outcome<(u32, u32)> {
     let sent = cases::cases(DATAGRAMS);
     let [judge, mask, clean] = cases::counts(&sent);
-    let mut receiver = Receiver::start(program, Instant::now() + LONGEST_RUN)?;
+    let mut receiver = Receiver::start(program, options, Instant::now() + LONGEST_RUN)?;
     let began = Instant::now();
     // The last one alone, since the order between ports is open: its copies are those that the receiver keeps.
     let (last, others) = sent.split_last().ok_or("nothing to send")?;

@@ -16,9 +16,11 @@ pub struct Receiver {
 }
 
 impl Receiver {
-    pub fn start(program: &str, deadline: Instant) -> Outcome<Self> {
+    pub fn start(program: &str, options: &[String], deadline: Instant) -> Outcome<Self> {
         let mut child = Command::new(program)
-            .args(["--answer", "0", "0", "0"])
+            .arg("--answer")
+            .args(options)
+            .args(["0", "0", "0"])
             .stdout(Stdio::piped())
             .spawn()
             .map_err(|error| format!("{program}: {error}"))?;

@@ -1,21 +1,26 @@
 //! A seeded generator of messages made from the listings, good and damaged, of
-//! the buffers lent with them, of lookups, and of what a builder is given.
+//! the buffers lent with them, of the parts that they come in, of lookups, and of
+//! what a builder is given.
 
 mod builds;
 mod compose;
 mod damage;
 mod draft;
+mod feeds;
 mod figures;
 mod lend;
 mod limits;
 mod lookups;
+mod parts;
 mod random;
 mod tables;
 
 pub use builds::{builds, Build, Rooms};
+pub use feeds::{Call, Feed, Left, What};
 pub use figures::figures;
 pub use lend::{Buffers, ANSWERS};
 pub use lookups::{hostile_tables, Ask, Lookup};
+pub use parts::{parts, Cut, CUTS};
 pub use random::Random;
 
 use crate::DOCUMENT;

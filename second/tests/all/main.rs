@@ -10,6 +10,7 @@ mod generator;
 mod listings;
 mod lookups;
 mod octets;
+mod pieces;
 mod pinned;
 mod program;
 mod readings;

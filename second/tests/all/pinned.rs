@@ -1,6 +1,6 @@
 //! Each figure of the rules is pinned by the gate's own comparisons: whatever
-//! single figure is changed, at least ten of the messages (or lookups, or builds)
-//! that the proved programs are compared on get another answer. So a fault that
+//! single figure is changed, at least ten of the messages (or lookups, builds, or
+//! messages in parts) that the proved programs are compared on get another answer. So a fault that
 //! stood in the proved code and in its definition alike would be seen.
 
 use std::collections::BTreeMap;
@@ -159,6 +159,7 @@ impl Gate {
             Shown::Program => self.program(&change.rules),
             Shown::Lookups => self.lookups(&change.rules),
             Shown::Builds => self.builds(&change.rules),
+            Shown::Pieces => self.pieces(&change.rules),
         });
         counts.min().expect("some comparison has to show it")
     }
@@ -183,6 +184,16 @@ impl Gate {
     fn builds(&self, rules: &Rules) -> usize {
         let differs = |built: &&Built| built.differs(rules);
         self.builds.iter().filter(differs).take(PLENTY).count()
+    }
+
+    /// The same messages in parts, with the seeds that the trials give them.
+    fn pieces(&self, rules: &Rules) -> usize {
+        let differs = |(seed, case): &(usize, &Compared)| {
+            let feed = case.case.feed(*seed as u64);
+            feed.left_by(rules) != feed.left_by(&DOCUMENT)
+        };
+        let cases = self.cases.iter().enumerate();
+        cases.filter(differs).take(PLENTY).count()
     }
 
     fn lookups(&self, rules: &Rules) -> usize {

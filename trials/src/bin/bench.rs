@@ -1,6 +1,8 @@
 //! Judge and mask, clean alone, and build, through the C interface against the second program: the ratio is the second program's time divided
 //! by ours, so that higher is better. Turns are interleaved, and the best of each side counts. Buffers are made once and not cleared between
-//! messages. `bench LINE SIDE TURNS` does one line (0 to 4) of one side (ours, second) so many times and measures nothing: trials/instructions counts.
+//! messages. The pieces form is measured against the library's own judge, with the same table, which its start makes zero: the judge's time divided
+//! by its own. `bench LINE SIDE TURNS` does one line (0 to 7) of one side (ours, or the other) so many times and measures nothing:
+//! trials/instructions counts.
 use second::generate::{Build, Generator};
 use std::hint::black_box;
 use std::time::Instant;
@@ -14,6 +16,7 @@ struct Buffers {
     copy: Vec<u8>,
     five: Vec<u8>,
     answer: Vec<u8>,
+    state: Vec<u8>,
 }
 
 type Messages = Vec<(u32, Vec<u8>)>;
@@ -22,6 +25,8 @@ type Turn = Box<dyn Fn(&mut Buffers)>;
 
 struct Line {
     name: &'static str,
+    /// What ours is measured against.
+    against: &'static str,
     count: usize,
     sides: [Turn; 2],
 }
@@ -36,7 +41,8 @@ fn judge_and_mask(name: &'static str, messages: &Messages) -> Line {
             }
         })
     };
-    Line { name, count: messages.len(), sides: [side(trials::judge, trials::mask), side(second::judge_octets, second::mask_octets)] }
+    let sides = [side(trials::judge, trials::mask), side(second::judge_octets, second::mask_octets)];
+    Line { name, against: "second", count: messages.len(), sides }
 }
 
 fn clean_alone(name: &'static str, messages: &Messages) -> Line {
@@ -48,7 +54,7 @@ fn clean_alone(name: &'static str, messages: &Messages) -> Line {
             }
         })
     };
-    Line { name, count: messages.len(), sides: [side(trials::clean), side(second::clean_octets)] }
+    Line { name, against: "second", count: messages.len(), sides: [side(trials::clean), side(second::clean_octets)] }
 }
 
 fn builds(name: &'static str, builds: Vec<Build>) -> Line {
@@ -61,7 +67,27 @@ fn builds(name: &'static str, builds: Vec<Build>) -> Line {
             }
         })
     };
-    Line { name, count: with_tables.len(), sides: [side(trials::build), side(second::build_octets)] }
+    Line { name, against: "second", count: with_tables.len(), sides: [side(trials::build), side(second::build_octets)] }
+}
+
+/// The messages in parts of so many octets, each from its start to its end.
+fn in_parts(name: &'static str, messages: &Messages, octets: usize) -> Line {
+    let (own, judged) = (messages.clone(), messages.clone());
+    let pieces: Turn = Box::new(move |b| {
+        for (kind, message) in &own {
+            black_box(trials::start(*kind, &mut b.state, &mut b.table));
+            for part in message.chunks(octets) {
+                black_box(trials::part(&mut b.state, black_box(part), &mut b.table, &mut b.five));
+            }
+            black_box(trials::end(&mut b.state, &mut b.table, &mut b.five));
+        }
+    });
+    let judge: Turn = Box::new(move |b| {
+        for (kind, message) in &judged {
+            black_box(trials::judge(*kind, black_box(message), &mut b.table, &mut b.five));
+        }
+    });
+    Line { name, against: "judge", count: messages.len(), sides: [pieces, judge] }
 }
 
 /// An Echo Request with `3/0` and then so many elements of a type that is not listed, each of `length` octets.
@@ -78,7 +104,7 @@ fn echo(count: usize, length: usize) -> Vec<u8> {
 }
 
 /// The lines, of so many generated messages and builds; the large messages a fiftieth as often.
-fn lines(count: usize) -> [Line; 5] {
+fn lines(count: usize) -> [Line; 8] {
     let mut generator = Generator::new(11);
     let mix: Messages = (0..count).map(|_| generator.case()).map(|case| (case.kind, case.message)).collect();
     let few = |message: Vec<u8>| vec![(1, message); count.div_ceil(50)];
@@ -88,6 +114,9 @@ fn lines(count: usize) -> [Line; 5] {
         judge_and_mask("judge and mask, one value of 4,075 octets", &few(echo(1, 4_075))),
         clean_alone("clean, the mix", &mix),
         builds("build, whole and with a fault", (0..count).map(|_| generator.build()).collect()),
+        in_parts("pieces, the mix in one part", &mix, usize::MAX),
+        in_parts("pieces, the mix in parts of 64 octets", &mix, 64),
+        in_parts("pieces, the mix octet by octet", &mix, 1),
     ]
 }
 
@@ -102,15 +131,16 @@ fn compare(line: &Line, buffers: &mut Buffers) {
     }
     let each = 1e9 / line.count as f64;
     let [ours, theirs] = best;
-    println!("{}: ours {:.0} ns, second {:.0} ns each, ratio {:.2}", line.name, ours * each, theirs * each, theirs / ours);
+    println!("{}: ours {:.0} ns, {} {:.0} ns each, ratio {:.2}", line.name, ours * each, line.against, theirs * each, theirs / ours);
 }
 
 fn main() {
-    let mut buffers = Buffers { table: vec![0; 2 * 6_138], copy: vec![0; LARGEST], five: vec![0; 10], answer: vec![0; 12] };
+    let state = vec![0; trials::state_octets()];
+    let mut buffers = Buffers { table: vec![0; 2 * 6_138], copy: vec![0; LARGEST], five: vec![0; 10], answer: vec![0; 12], state };
     let words: Vec<String> = std::env::args().skip(1).collect();
     if let [line, side, turns] = &words[..] {
         let line = &lines(150)[line.parse::<usize>().expect("a line")];
-        let turn = &line.sides[usize::from(side == "second")];
+        let turn = &line.sides[usize::from(side != "ours")];
         (0..turns.parse().expect("a count")).for_each(|_| turn(&mut buffers));
         return;
     }

@@ -1,7 +1,7 @@
 //! The library against the second program on many generated messages: `million [COUNT [SEED]]`, 1,000,000 by default. Those that pin the
-//! figures come first. After every fifth message something is built.
+//! figures come first. After every fifth message something is built, and every seventh is fed in parts too.
 use second::generate::{figures, Generator};
-use trials::{build_difference, difference};
+use trials::{build_difference, difference, feed_difference};
 
 fn main() {
     let mut words = std::env::args().skip(1);
@@ -14,13 +14,20 @@ fn main() {
         _ => generator.case(),
     });
     let mut builder = Generator::new(!seed);
-    let (mut differences, mut builds) = (0, 0);
+    let (mut differences, mut builds, mut feeds) = (0, 0, 0);
     for (turn, case) in figures().into_iter().chain(generated).take(count).enumerate() {
         let [enough, some] = case.buffers(seed.wrapping_add(turn as u64));
         let lent = if turn % 2 == 0 { enough } else { some };
         if let Some(what) = difference(&case, lent) {
             differences += 1;
             println!("{what}\n{}", second::lines::case_line(&case));
+        }
+        if turn % 7 == 0 {
+            if let Some(what) = feed_difference(&case.feed(seed.wrapping_add(turn as u64))) {
+                differences += 1;
+                println!("{what}\n{}", second::lines::case_line(&case));
+            }
+            feeds += 1;
         }
         if turn % 5 == 0 {
             let build = builder.build();
@@ -32,6 +39,6 @@ fn main() {
             builds += 1;
         }
     }
-    println!("{count} messages and {builds} builds, {differences} differences");
+    println!("{count} messages, {feeds} of them in parts too, and {builds} builds, {differences} differences");
     std::process::exit(i32::from(differences > 0));
 }

@@ -13,7 +13,7 @@ read-requires : tie.Need-read-requires
 read-requires c κs = search needs
 
 verdict-on-requires : tie.Need-verdict-on-requires
-verdict-on-requires c κs = let s = c .before .before .before .before .before .before in rw (c .before .before .read .ensures .answers) (few book (s .args .kind) (s .args .message .now))
+verdict-on-requires c κs = let s = c .before .before .before .before .before .before in rw (c .before .before .read .ensures .answers) (omega (arith, few book (s .args .kind) (s .args .message .now)))
 
 shared-slice-read-t11 : tie.Need-shared-slice-read-t11
 shared-slice-read-t11 c =

@@ -9,10 +9,11 @@ use second::{Rules, DOCUMENT};
 
 impl Changes {
     pub fn of_checks(&mut self) {
-        let octets = &[Shown::Octets];
-        self.of_order("order of the judge's checks", octets, |rules| {
+        let judged = &[Shown::Octets, Shown::Pieces];
+        self.of_order("order of the judge's checks", judged, |rules| {
             &mut rules.checks.judge
         });
+        let octets = &[Shown::Octets];
         self.of_order("order of the masker's checks", octets, |rules| {
             &mut rules.checks.mask
         });
@@ -49,16 +50,18 @@ impl Changes {
     }
 
     fn of_causes(&mut self) {
-        for code in Check::Kind as usize..=Check::Built as usize {
+        for code in Check::Kind as usize..=Check::Ended as usize {
             for by in [1, u16::MAX] {
                 let change = self.push("causes", format!("of {code}"), ON_ALL, |rules| {
                     let cause = &mut rules.checks.causes[code];
                     *cause = cause.wrapping_add(by);
                 });
                 change.shown_by(match code {
-                    1 | 7 => &[Shown::Octets, Shown::Builds],
+                    1 | 7 => &[Shown::Octets, Shown::Builds, Shown::Pieces],
+                    13 => &[Shown::Octets],
                     14..=16 => &[Shown::Builds],
-                    _ => &[Shown::Octets],
+                    17 => &[Shown::Pieces],
+                    _ => &[Shown::Octets, Shown::Pieces],
                 });
             }
         }

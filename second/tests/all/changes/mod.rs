@@ -31,13 +31,14 @@ pub struct Bears {
 }
 
 /// The comparisons: of judge, masker and cleaner, of the judge program, of the
-/// lookups, and of the builder.
+/// lookups, of the builder, and of the pieces form.
 #[derive(Debug, Clone, Copy, PartialEq, Eq)]
 pub enum Shown {
     Octets,
     Program,
     Lookups,
     Builds,
+    Pieces,
 }
 
 /// All of them.

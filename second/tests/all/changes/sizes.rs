@@ -2,7 +2,7 @@
 
 use std::ops::RangeInclusive;
 
-use super::Shown::{self, Builds, Lookups, Octets, Program};
+use super::Shown::{self, Builds, Lookups, Octets, Pieces, Program};
 use super::{Changes, ON_ALL};
 use second::rules::{Told, STANDINGS};
 use second::{Rules, DOCUMENT};
@@ -75,39 +75,47 @@ impl Changes {
         let (first, last) = (DOCUMENT.sizes.remnant.start(), DOCUMENT.sizes.remnant.end());
         for remnant in around(*first, *last) {
             let name = format!("remnant {remnant:?}");
-            self.push("sizes", name, ON_ALL, |rules| rules.sizes.remnant = remnant);
+            self.push("sizes", name, ON_ALL, |rules| rules.sizes.remnant = remnant)
+                .shown_by(&[Octets, Pieces]);
         }
         for t in 0..2 {
-            self.size("header", &[Octets], |rules| &mut rules.sizes.header[t]);
-            self.size("body", &[Octets], |rules| &mut rules.sizes.body[t]);
+            self.size("header", &[Octets, Pieces], |rules| {
+                &mut rules.sizes.header[t]
+            });
+            self.size("body", &[Octets, Pieces], |rules| &mut rules.sizes.body[t]);
         }
-        self.size("uncounted", &[Octets, Builds], |rules| {
+        self.size("uncounted", &[Octets, Builds, Pieces], |rules| {
             &mut rules.sizes.uncounted
         });
-        self.size("type octet", &[Octets, Lookups], |rules| {
+        self.size("type octet", &[Octets, Lookups, Pieces], |rules| {
             &mut rules.sizes.type_octet
         });
-        self.size("longest", &[Octets, Program, Builds], |rules| {
+        self.size("longest", &[Octets, Program, Builds, Pieces], |rules| {
             &mut rules.sizes.longest
         });
-        self.size("five", &[Octets], |rules| &mut rules.sizes.five);
+        self.size("five", &[Octets, Pieces], |rules| &mut rules.sizes.five);
+        self.size("state", &[Pieces], |rules| &mut rules.sizes.state);
         self.size("answer", &[Octets, Builds], |rules| &mut rules.sizes.answer);
     }
 
     fn of_table(&mut self) {
-        self.size("header numbers", &[Octets, Lookups, Builds], |rules| {
-            &mut rules.sizes.table_header
-        });
-        self.size("first row", &[Octets, Lookups, Builds], |rules| {
+        self.size(
+            "header numbers",
+            &[Octets, Lookups, Builds, Pieces],
+            |rules| &mut rules.sizes.table_header,
+        );
+        self.size("first row", &[Octets, Lookups, Builds, Pieces], |rules| {
             &mut rules.sizes.first_row
         });
         self.push("sizes", "header numbers 4".into(), ON_ALL, |rules| {
             rules.sizes.table_header = 4;
         })
-        .shown_by(&[Octets, Lookups, Builds]);
-        self.size("numbers a row", &[Octets, Lookups, Builds], |rules| {
-            &mut rules.sizes.row
-        });
+        .shown_by(&[Octets, Lookups, Builds, Pieces]);
+        self.size(
+            "numbers a row",
+            &[Octets, Lookups, Builds, Pieces],
+            |rules| &mut rules.sizes.row,
+        );
         let most_rows = |rules: &mut Rules, by| {
             let rows = &mut rules.sizes.most_rows;
             *rows = rows.saturating_add_signed(by);
@@ -154,7 +162,7 @@ impl Changes {
     fn header(&mut self, name: String, change: impl Fn(&mut Rules)) {
         let class = "header of a table";
         let read = self.push(class, name.clone(), ON_ALL, &change);
-        read.shown_by(&[Octets, Lookups]);
+        read.shown_by(&[Octets, Lookups, Pieces]);
         let rows_for_kept = [[Told::Rows, Told::Rows], [Told::Kept, Told::Rows]];
         let (counts, others) = read.rules.table.header.split_at(2);
         let silent = rows_for_kept.iter().any(|header| header == counts)

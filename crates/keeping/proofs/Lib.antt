@@ -1,0 +1,3 @@
+pub mod Storing
+pub mod Loading
+pub mod Again

@@ -1,0 +1,54 @@
+-- `walk_in` loads the walk's parts. Assumes nothing.
+use Rattle.keeping.specs.Kept.{walkIn}
+use borrow.Author.Needs.{needs}
+use Rattle.keeping.proofs.walk_in.Statement.{statement}
+use Rattle.keeping.proofs.walk_in.Tie as tie
+
+open-at-requires : tie.Need-open-at-requires
+open-at-requires c κs = search needs
+
+open-at-requires-2 : tie.Need-open-at-requires-2
+open-at-requires-2 c κs = search needs
+
+four-at-requires : tie.Need-four-at-requires
+four-at-requires c κs = search needs
+
+counts-in-requires : tie.Need-counts-in-requires
+counts-in-requires c κs = search needs
+
+shared-slice-read-t8 : tie.Need-shared-slice-read-t8
+shared-slice-read-t8 c = search needs
+
+number-at-requires : tie.Need-number-at-requires
+number-at-requires c κs = search needs
+
+number-at-requires-2 : tie.Need-number-at-requires-2
+number-at-requires-2 c κs = search needs
+
+number-at-requires-3 : tie.Need-number-at-requires-3
+number-at-requires-3 c κs = search needs
+
+number-at-requires-4 : tie.Need-number-at-requires-4
+number-at-requires-4 c κs = search needs
+
+returns : tie.Need-returns
+unfolding walkIn
+returns c =
+    let n = c .before .before .before in
+    let k = n .before .before in
+    rw (k .before .before .before .open-at .ensures, k .before .before .open-at2 .ensures, k .before .four-at .ensures, k .counts-in .ensures, n .number-at .ensures, c .before .before .number-at2 .ensures, c .before .number-at3 .ensures, c .number-at4 .ensures)
+
+pub walk-in-spec : {M : Type 1} → statement M
+walk-in-spec =
+    tie.close
+    (tie.spec
+    open-at-requires
+    open-at-requires-2
+    four-at-requires
+    counts-in-requires
+    shared-slice-read-t8
+    number-at-requires
+    number-at-requires-2
+    number-at-requires-3
+    number-at-requires-4
+    returns)

@@ -1,0 +1,5 @@
+pub mod Twos
+pub mod Stores
+pub mod Calls
+pub mod Shapes
+pub mod Main
