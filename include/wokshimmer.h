@@ -38,7 +38,7 @@ extern "C" {
 #define WOK_WRONG_LENGTH 6u       /* the length field + 4 is not the message's length */
 #define WOK_UNKNOWN_MESSAGE 7u    /* the message type is not listed */
 #define WOK_WRONG_T 8u            /* T is wrong for the message type */
-#define WOK_BAD_FRAMING 9u        /* an element does not lie in what its level has left; place */
+#define WOK_BAD_FRAMING 9u        /* an element does not lie in what its level has left; place. No group with such a fault inside is void */
 #define WOK_TABLE_SHORT 10u       /* judge, end: the table is too short for the rows */
 #define WOK_MANDATORY_SHORT 11u   /* a mandatory element is short; place, type, instance */
 #define WOK_MANDATORY_MISSING 12u /* a mandatory element is missing; place of the level, type, instance */
@@ -52,11 +52,12 @@ extern "C" {
 #define WOK_CAUSE_INVALID_LENGTH 67u
 #define WOK_CAUSE_MANDATORY_IE_MISSING 70u
 
-/* Standings: the last number of a row. */
+/* Standings: the last number of a row. Every row but a kept one is set aside, and no row stands inside a group that is. */
 #define WOK_KEPT 0u
-#define WOK_UNEXPECTED 1u
-#define WOK_REPEATED 2u
-#define WOK_SHORT 3u
+#define WOK_UNEXPECTED 1u         /* the pair is not listed at its level on this kind */
+#define WOK_REPEATED 2u           /* it has stood at this level, and may stand once */
+#define WOK_SHORT 3u              /* the value is below the least length of its type */
+#define WOK_VOID 4u               /* message 67: an Overload Control Information (180/0) with more than ten APNs (71/0) directly inside */
 
 /* Sizes. A number of the table or of the five is two octets, high octet first. */
 #define WOK_LARGEST_MESSAGE 4096u /* octets */
@@ -67,11 +68,12 @@ extern "C" {
 #define WOK_FIVE_OCTETS 10u       /* code, cause, place, type, instance */
 #define WOK_ANSWER_OCTETS 12u     /* clean, build: the five numbers, and the length of what was written */
 #define WOK_LARGEST_SEQUENCE 16777215u
-#define WOK_STATE_OCTETS 208u     /* start, part, end: what is known of a message between its parts */
+#define WOK_STATE_OCTETS 249u     /* start, part, end: what is known of a message between its parts */
 
 /*
- * Judges a message. Answers the code. On acceptance the table holds its header and one row an element, in octet order, depth first;
- * what lies past the numbers used stays, and so does an odd last octet. On a refusal the table stays as it was.
+ * Judges a message. Answers the code. On acceptance the table holds its header and one row an element, in octet order, depth first; a group that
+ * is set aside has its own row and none for what it holds, and 11 and 12 are never given for that. What lies past the numbers used stays, and so
+ * does an odd last octet. On a refusal the table stays as it was.
  * The five numbers are written if their buffer has 10 octets or more; octets past 10 stay. A shorter buffer stays as it was, and
  * stops no other write.
  */
@@ -80,16 +82,16 @@ uint16_t wok_judge(uint32_t kind, const uint8_t *message, size_t message_len, ui
 /*
  * Makes a masked copy of a message: every octet that the rules cover is zero, every other one is the message's own. Covered are the values of
  * IMSI (1), MEI (75), MSISDN (76), PCO (78) and private extensions (255), the places in User Location Information (86), the address in PDN
- * Address Allocation (79), and all values of standing WOK_UNEXPECTED and WOK_REPEATED. NOT covered are APN, TEIDs, F-TEID addresses, traffic filters
- * and whatever else: docs/COVERED.md.
+ * Address Allocation (79), and all values of standing WOK_UNEXPECTED and WOK_REPEATED; of a group of standing WOK_VOID each value directly inside
+ * it, whole, but not the headers of these. NOT covered are other APNs, TEIDs, F-TEID addresses, traffic filters and whatever else: docs/COVERED.md.
  * Answers the code: 1 to 9, 13, or 0 where the copy is made; 10, 11 and 12 do not stop it. The copy, judged, gets the message's own verdict
  * and table. Octets past the message's length stay; on a refusal the whole copy stays as it was. The five numbers as above.
  */
 uint16_t wok_mask(uint32_t kind, const uint8_t *message, size_t message_len, uint8_t *copy, size_t copy_len, uint8_t *five, size_t five_len);
 
 /*
- * Makes a cleaned copy of a message, to forward: without the elements set aside (every standing but WOK_KEPT) at all levels, a set-aside group
- * with all that is inside it; the lengths of the kept groups and of the header are put right, and every other octet is the message's own, in
+ * Makes a cleaned copy of a message, to forward: without the elements set aside (every standing but WOK_KEPT) at all levels, a set-aside or void
+ * group with all that is inside it; the lengths of the kept groups and of the header are put right, and every other octet is the message's own, in
  * its order. It masks nothing: the subscriber's values are in it.
  * Answers the code: 1 to 9, 11 and 12 as the judge does with a table that is large enough, then 13, or 0 where the copy is made; never 10. The
  * copy, judged on the same kind, is accepted with every row kept, and cleaned again is the same. It is never longer than the message, so a
@@ -122,6 +124,7 @@ uint16_t wok_build(uint32_t teid, uint32_t sequence, const uint8_t *table, size_
  * or none. However the octets are cut, the end answers what wok_judge does of all of them one behind the other. No octet need be kept for it: a
  * part's buffer may be filled anew after the call.
  * Between start and end state and table are the functions' own, and are passed on as the last call left them; both are plain octets, and may be moved.
+ * A table too short for the rows of a group that turns out to be WOK_VOID at its end is none the worse for them.
  * With other octets in them a call still answers something, 17 among it, and writes nothing but state, table and five.
  */
 

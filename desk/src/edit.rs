@@ -2,7 +2,7 @@
 
 use crate::build;
 use crate::forms::{Header, View};
-use crate::library::{Judged, Library, Row};
+use crate::library::{Judged, Library, Row, VOID};
 use crate::text;
 
 /// The text of a message: of itself with the right, of the masked copy without; none of a message that checks 1 to 9 refuse.
@@ -34,7 +34,7 @@ impl Edit<'_> {
         out += match (self.right, covered) {
             (true, _) => "# with the subscriber's values: not for people outside\n",
             (_, true) => "# MASKED: what is covered is zero here. Do not send it on: wok edit --subscriber has the values\n",
-            _ => "# masked: nothing here is covered\n",
+            _ => "# masked: nothing written here is covered\n",
         };
         let spare: Vec<String> = self.spare().iter().map(usize::to_string).collect();
         if !spare.is_empty() {
@@ -93,7 +93,9 @@ impl Edit<'_> {
             _ if self.wanted(row) => comment += "; short, and mandatory",
             1 => comment += &format!("; left out{inside}: not listed"),
             2 => comment += &format!("; left out{inside}: repeated"),
-            _ => comment += "; left out: short",
+            3 => comment += "; left out: short",
+            VOID => comment += &format!("; left out{inside}: more than ten APNs"),
+            _ => comment += "; left out",
         }
         match covered {
             0 => {}

@@ -1,7 +1,7 @@
 //! How messages are written: pages, lines, numbers, JSON, CSV, hex.
 
 use crate::capture::Message;
-use crate::library::{Five, Judged, Library};
+use crate::library::{Five, Judged, Library, VOID};
 use std::fmt::Write;
 
 /// Where a message comes from.
@@ -102,17 +102,31 @@ impl View {
         View { judged, name, sentence, octets: message.len(), copy, seen }
     }
 
-    /// A row's value in hex, and how many octets at its end are covered. A group that has rows has no value of its own: they have it.
+    /// A row's value in hex, and how many octets at its end are covered. A group that has rows has no value of its own: they have it. Of a void group
+    /// the values inside are covered, and nothing is shown without the right.
     fn value(&self, library: &Library, right: bool, row: usize) -> (Option<String>, usize) {
         let (Some(copy), Some(seen)) = (&self.copy, &self.seen) else { return (None, 0) };
         if self.judged.rows.get(row + 1).is_some_and(|next| next[0] as usize == row + 1) {
             return (None, 0);
         }
-        let [_, _, _, place, length, _] = self.judged.rows[row].map(usize::from);
+        let [_, _, _, place, length, standing] = self.judged.rows[row].map(usize::from);
+        if standing == usize::from(VOID) && !right {
+            return (None, copy.get(place..place + length).map_or(0, inner));
+        }
         let covered = if right { 0 } else { library.covered(copy, place, length) };
         let open = seen.get(place..place + length - covered).unwrap_or(&[]);
         (if covered == length && length > 0 { None } else { Some(hex(open)) }, covered)
     }
+}
+
+/// How many octets the values of the elements directly inside a group have, by their headers.
+fn inner(group: &[u8]) -> usize {
+    let (mut at, mut values) = (0, 0);
+    while let Some(header) = group.get(at..at + 4) {
+        let length = usize::from(u16::from_be_bytes([header[1], header[2]]));
+        (at, values) = (at + 4 + length, values + length);
+    }
+    values
 }
 
 fn quoted(text: &str) -> String {

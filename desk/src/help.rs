@@ -24,11 +24,12 @@ usage: wok show [--subscriber] [--long] [--json | --csv] [--message N] [--port N
 
 The message in words. Of a capture a line each: number, time, peers, name, verdict; --message N shows the page of one.
 What the rules cover of a value is shown as 'covered', and of a message that checks 1 to 9 refuse nothing is shown but its length and what its first
-four octets say.
+four octets say. Of a void group the page says why it is set aside, whoever looks; with --subscriber, --json and --csv have its octets.
   --subscriber   with the subscriber's values: for those who may see them
   --long         values whole; without it a page cuts those over 32 octets
   --json         an object a message, one a line: verdict, header, rows; values in hex, null where covered,
                  and null for a group, whose rows have its value; 'covered' counts octets
+                 (of a void group those of the values inside, of which nothing is shown without --subscriber)
   --csv          a line a row
 ";
 
@@ -48,7 +49,7 @@ messages that cannot be masked are left out; the latter are listed with the reas
   --hex   as hex text that text2pcap reads
 
 Made zero: IMSI, MSISDN, MEI, PCO and private extensions whole; the places in User Location; the address in PDN Address Allocation; every element that is
-not listed or repeated.
+not listed or repeated; the values inside an Overload Control Information that is void, since it holds more than ten APNs.
 NOT made zero: APN, TEIDs, addresses of gateways (F-TEID, and the packets' own), traffic filters, time zone, serving network, charging
 identities, trace references, lengths, the sequence number.
 ";
@@ -56,7 +57,7 @@ identities, trace references, lengths, the sequence number.
 pub const CLEAN: &str = "\
 usage: wok clean [--hex] [-o OUT] [--message N] [--port N] KIND FILE   (several FILEs with --hex)
 
-A copy without the elements that are set aside (not listed, repeated or short), at all levels, with the lengths of groups and of the header
+A copy without the elements that are set aside (not listed, repeated, short or void), at all levels, with the lengths of groups and of the header
 put right, for a gateway that takes no others; to standard output, or to OUT. Where no row is set aside, the copy is the message, and
 standard error says so.
 A capture gives a capture: the same packets with cleaned messages, times and addresses kept, the lengths and checksums of IP and UDP made
@@ -73,7 +74,7 @@ usage: wok edit [--subscriber] [-o OUT] [--message N] [--port N] KIND FILE
 
 One message as text that a person can change and wok build makes a message of; to standard output, or to OUT. It says the kind, type, TEID
 and sequence number, then a line an element: type/instance, its value in hex, its name behind #. What stands in a group follows it, further in.
-Elements that are set aside (not listed, repeated or short) are left out: they stand there behind #, to be brought back by taking that away, but
+Elements that are set aside (not listed, repeated, short or void) are left out: they stand there behind #, to be brought back by taking that away, but
 for what is inside a group. Bits that nothing reads come back as zero.
 A message that is refused by 11 or 12 is written too. Of the mandatory element that the verdict names there is a line: to be made longer if it is
 short, behind # if it is missing. A message that is refused by 1 to 9 cannot be written: the reason is said, and the exit status is 1.
@@ -95,5 +96,6 @@ The message of a text that wok edit wrote, or that is written like this; to stan
 
 A message is made only if it is accepted with every element kept. Otherwise nothing is written, and what is wrong is said with its line:
 the first line that cannot be read, with exit status 2; or, with exit status 1, why the message is refused: its type is not handled, it is over
-4,096 octets, elements are not listed there, stand twice or are short, or a mandatory one is missing (one of these at a time).
+4,096 octets, elements are not listed there, stand twice, are short or hold more than ten APNs, or a mandatory one is missing (one of these at
+a time).
 ";

@@ -18,6 +18,9 @@ const PAGE: usize = 163840;
 /// A row of the table: parent, type, instance, value place, value length, standing.
 pub type Row = [u16; 6];
 
+/// The standing of a group that is set aside whole: it has no rows inside, and the values there are covered.
+pub const VOID: u16 = 4;
+
 /// The five numbers: code, cause, place, type, instance.
 pub type Five = [u16; 5];
 

@@ -2,8 +2,8 @@
 
 use crate::library::Row;
 
-/// What a page calls the standings 0 to 3.
-const STANDINGS: [&str; 4] = ["kept", "not listed", "repeat", "short"];
+/// What a page calls the standings 0 to 4.
+const STANDINGS: [&str; 5] = ["kept", "not listed", "repeat", "short", "void"];
 
 /// The rows of a page, each number below its heading; none if this is no page with rows.
 pub fn rows(page: &str) -> Option<Vec<Row>> {

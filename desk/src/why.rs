@@ -1,7 +1,7 @@
 //! Why the builder refuses with 16, in sentences: it names no element. The octets that are laid here are judged for that and go nowhere else: what
 //! is written comes from the builder alone.
 
-use crate::library::Library;
+use crate::library::{Library, VOID};
 use crate::text::{Element, Fault, Text};
 
 /// The octets of a text, and where each element's value begins.
@@ -73,6 +73,10 @@ fn set_aside(library: &mut Library, text: &Text, i: usize, standing: u16) -> Str
     match standing {
         1 => format!("{pair} is not listed in {} on {}", level(library, text, e.parent.checked_sub(1)), text.kind.1 .1),
         2 => format!("{pair} stands twice: it stood on line {}", text.elements.iter().find(same).map_or(0, |o| o.line)),
+        VOID => {
+            let inside = text.elements.iter().filter(|o| (o.parent, o.typ, o.instance) == (i + 1, 71, 0)).count();
+            format!("{pair} holds {inside} elements {}: ten are the most", library.pair(71, 0))
+        }
         _ => {
             let has = e.value.as_ref().map_or(0, Vec::len);
             let needs = least(library, text, i).map_or(String::new(), |n| format!(", and needs {n} or more"));

@@ -22,7 +22,7 @@ pub static DOCUMENT: LazyLock<Rules> = LazyLock::new(|| Rules {
     sizes: sizes(),
     table: table(),
     checks: checks(),
-    cleaned: [true, false, false, false],
+    cleaned: [true, false, false, false, false],
     builds: Builds {
         sequence: 16_777_215,
         typ: 255,
@@ -49,7 +49,7 @@ fn sizes() -> Sizes {
         row: 6,
         five: 10,
         answer: 12,
-        state: 208,
+        state: 249,
         most_rows: 1022,
     }
 }

@@ -51,3 +51,14 @@ pub fn element(
         length,
     }))
 }
+
+/// All elements of a level that is these octets; places count from its first.
+pub fn elements(rules: &Rules, level: &[u8]) -> Result<Vec<Element>, Broken> {
+    let mut elements = Vec::new();
+    let mut at = 0;
+    while let Some(element) = element(rules, level, at, level.len())? {
+        at = element.end();
+        elements.push(element);
+    }
+    Ok(elements)
+}

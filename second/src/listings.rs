@@ -53,7 +53,7 @@ impl fmt::Display for Message {
 }
 
 impl fmt::Display for Line<'_> {
-    /// `MESSAGE LEVEL TYPE/INSTANCE M|- *|- KINDS`.
+    /// `MESSAGE LEVEL TYPE/INSTANCE M|- *|- KINDS`, and ` most N` where more would void the group.
     fn fmt(&self, f: &mut fmt::Formatter) -> fmt::Result {
         match self.level {
             None => write!(f, "{} body", self.message)?,
@@ -64,6 +64,10 @@ impl fmt::Display for Line<'_> {
         } = self.listed;
         let mandatory = if self.listed.mandatory { 'M' } else { '-' };
         let many = if self.listed.many { '*' } else { '-' };
-        write!(f, " {typ}/{inst} {mandatory} {many} {kinds}")
+        write!(f, " {typ}/{inst} {mandatory} {many} {kinds}")?;
+        match self.listed.most {
+            None => Ok(()),
+            Some(most) => write!(f, " most {most}"),
+        }
     }
 }

@@ -127,6 +127,7 @@ fn types(out: &mut impl Write) -> Outcome {
             Cover::Nothing => "-",
             Cover::Rest => "rest",
             Cover::Whole => "whole",
+            Cover::Values => "values",
         });
         writeln!(out, "{typ} {least} {group} {}", cover.join(" "))?;
     }

@@ -3,6 +3,7 @@
 use std::ops::Range;
 
 use crate::checks::fault;
+use crate::framing;
 use crate::rules::{Check, Cover, Rules};
 use crate::verdict::Verdict;
 use crate::walk::{Row, Walk};
@@ -18,7 +19,7 @@ impl Rules {
         let copy = &mut copy[..message.len()];
         copy.copy_from_slice(message);
         for row in &rows {
-            copy[self.covered_part(row)].fill(0);
+            self.each_covered(row, message, |part| copy[part].fill(0));
         }
         Verdict::ACCEPTED
     }
@@ -28,7 +29,7 @@ impl Rules {
         let mut covered = vec![false; message.len()];
         if let Ok(rows) = self.rows(kind, message) {
             for row in &rows {
-                covered[self.covered_part(row)].fill(true);
+                self.each_covered(row, message, |part| covered[part].fill(true));
             }
         }
         covered
@@ -44,14 +45,21 @@ impl Rules {
         self.checked(&self.checks.mask, kind, message, lent)
     }
 
-    /// The covered part of one row's value.
-    fn covered_part(&self, row: &Row) -> Range<usize> {
+    /// Does something with each covered part of one row's value.
+    fn each_covered(&self, row: &Row, message: &[u8], mut with: impl FnMut(Range<usize>)) {
         let place = usize::from(row.place);
         let end = place + usize::from(row.length);
         match self.facts(row.typ).cover[row.standing as usize] {
-            Cover::Whole => place..end,
-            Cover::Rest => end.min(place + 1)..end,
-            Cover::Nothing => place..place,
+            Cover::Nothing => {}
+            Cover::Rest => with(end.min(place + 1)..end),
+            Cover::Whole => with(place..end),
+            Cover::Values => {
+                // A void group is not broken, or it would not be void.
+                let inside = framing::elements(self, &message[place..end]);
+                for element in inside.unwrap_or_default() {
+                    with(place + element.place..place + element.end());
+                }
+            }
         }
     }
 }

@@ -112,7 +112,8 @@ impl Pieces<'_> {
             let listed = self.typ().and_then(|typ| self.rules.message_of(typ));
             let listing = listed.map_or(&[][..], |listed| &listed.body);
             let end = self.length();
-            self.body = Some(Taking::new(self.rules, self.kind, listing, next, end));
+            let body = Taking::new(self.rules, self.kind, listing, next..end, table);
+            self.body = Some(body);
         }
     }
 

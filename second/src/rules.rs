@@ -42,6 +42,9 @@ pub struct Listed {
     pub mandatory: bool,
     pub many: bool,
     pub kinds: Kinds,
+    /// How many elements of the pair a group may hold. With more of them, short
+    /// ones counted, the group is void.
+    pub most: Option<usize>,
     /// What a group lists inside; empty for other elements.
     pub inside: Vec<Listed>,
 }
@@ -92,6 +95,8 @@ pub enum Cover {
     /// All but the first octet, which the least length reads.
     Rest,
     Whole,
+    /// Of a group: every value directly inside it whole, and no header.
+    Values,
 }
 
 #[derive(Debug, Clone, Copy, PartialEq, Eq)]
@@ -100,9 +105,10 @@ pub enum Standing {
     Unexpected = 1,
     Repeated = 2,
     Short = 3,
+    Void = 4,
 }
 
-pub const STANDINGS: usize = 4;
+pub const STANDINGS: usize = 5;
 
 /// What stands in part of an octet.
 #[derive(Debug, Clone, PartialEq, Eq)]
@@ -313,6 +319,12 @@ impl Listed {
     /// Is this the line of that pair, on whatever kind?
     pub fn is(&self, typ: u8, inst: u8) -> bool {
         self.typ == typ && (self.inst == Inst::Any || self.inst == Inst::Is(inst))
+    }
+
+    /// The lines inside that have a limit, with their positions and limits.
+    pub fn limits(&self) -> impl Iterator<Item = (usize, usize)> + '_ {
+        let lines = self.inside.iter().enumerate();
+        lines.filter_map(|(position, listed)| Some((position, listed.most?)))
     }
 }
 

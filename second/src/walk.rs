@@ -93,6 +93,8 @@ impl<'r> Level<'r> {
             Standing::Repeated
         } else if value.len() < rules.facts(element.typ).least(value) {
             Standing::Short
+        } else if is_void(rules, kind, listed, value) {
+            Standing::Void
         } else {
             self.kept |= bit;
             Standing::Kept
@@ -102,6 +104,25 @@ impl<'r> Level<'r> {
             listed: Some(listed),
         }
     }
+}
+
+/// Does the value of a group hold more elements of some line than the line lets
+/// it? Only what stands directly inside counts, however short. A group whose
+/// framing is broken is never void: it is entered, and the break is found.
+fn is_void(rules: &Rules, kind: u32, group: &Listed, value: &[u8]) -> bool {
+    let mut limits = group.limits().peekable();
+    if !rules.facts(group.typ).group || limits.peek().is_none() {
+        return false;
+    }
+    let Ok(elements) = framing::elements(rules, value) else {
+        return false;
+    };
+    limits.any(|(line, most)| {
+        let is_of_line = |element: &&Element| {
+            position(&group.inside, kind, element.typ, element.inst) == Some(line)
+        };
+        elements.iter().filter(is_of_line).count() > most
+    })
 }
 
 /// Room that is made for rows and for levels at first.

@@ -1,13 +1,24 @@
 //! The proved library against the second program: every answer and every lent octet, with buffers around each boundary.
 
-use second::generate::{Buffers, Build, builds, Call, Case, Cut, figures, Generator, Random, What, CUTS};
+use second::generate::{Buffers, Build, builds, Call, Case, Cut, Feed, figures, Generator, Random, What, CUTS};
 use trials::{build_difference, difference, feed_difference, rubbish_fault, state_octets};
 
-/// How often each code was met: of the judge with the largest table, of the cleaner with the buffers of the trials.
+/// How often each code was met: of the judge with the largest table, of the cleaner with the buffers of the trials. And how many messages have a void
+/// group in the library's table.
 #[derive(Debug, Default)]
 struct Codes {
     judge: [usize; 14],
     clean: [usize; 14],
+    void: usize,
+}
+
+/// The code of the judge with the largest table, and whether a row of that table is void.
+fn judged(case: &Case) -> (u16, bool) {
+    let mut table = [0; 12_276];
+    let code = trials::judge(case.kind, &case.message, &mut table, &mut []);
+    let rows = usize::from(u16::from_be_bytes([table[0], table[1]]));
+    let mut rows = table[12..].chunks(12).take(rows);
+    (code, code == 0 && rows.any(|row| row[10..] == [0, 4]))
 }
 
 /// Both trials of each case.
@@ -21,8 +32,9 @@ fn compare(cases: impl IntoIterator<Item = Case>) -> Codes {
             let mut copy = vec![0; lent.clean];
             codes.clean[usize::from(trials::clean(case.kind, &case.message, &mut copy, &mut []))] += 1;
         }
-        let mut table = [0; 12_276];
-        codes.judge[usize::from(trials::judge(case.kind, &case.message, &mut table, &mut []))] += 1;
+        let (code, is_void) = judged(&case);
+        codes.judge[usize::from(code)] += 1;
+        codes.void += usize::from(is_void);
     }
     codes
 }
@@ -35,6 +47,7 @@ fn every_figure() {
         assert!(code == 10 || code == 13 || codes.judge[code] >= 10, "{codes:?}");
         assert!(code == 10 || codes.clean[code] >= 10, "{codes:?}");
     }
+    assert!(codes.void >= 1_400, "{codes:?}");
 }
 
 /// Both trials of each build, and how often each code was met.
@@ -69,7 +82,19 @@ fn ten_thousand_builds_of_the_mix() {
 
 #[test]
 fn ten_thousand_of_the_mix() {
-    compare(Generator::new(2029).take(10_000));
+    let codes = compare(Generator::new(2029).take(10_000));
+    assert!(codes.void >= 100, "{codes:?}");
+}
+
+/// Groups with about as many elements as they may hold, whole and with faults inside and beside them.
+#[test]
+fn ten_thousand_overloads() {
+    let mut generator = Generator::new(2032);
+    let codes = compare((0..10_000).map(|_| generator.overload()));
+    assert!(codes.void >= 2_500, "{codes:?}");
+    for code in [0, 9, 11, 12] {
+        assert!(codes.judge[code] >= 300, "{codes:?}");
+    }
 }
 
 #[test]
@@ -179,6 +204,40 @@ fn pieces_of_ten_thousand_of_the_mix() {
     compare_pieces((0..10_000).map(|turn| if turn % 3 == 0 { generator.damaged() } else { generator.case() }));
 }
 
+/// The same as above in parts, with tables that the inside of a void group overruns, and others.
+#[test]
+fn pieces_of_ten_thousand_overloads() {
+    let mut generator = Generator::new(2033);
+    let cases: Vec<_> = (0..10_000).map(|_| generator.overload()).collect();
+    let void = cases.iter().filter(|case| judged(case).1).count();
+    assert!(void >= 2_500, "only {void} have a void group");
+    compare_pieces(cases);
+}
+
+/// One octet a part, and a table of each length around what is needed with and without the inside of the void groups.
+#[test]
+fn pieces_of_void_groups_octet_by_octet() {
+    let mut generator = Generator::new(2034);
+    let mut count = 0;
+    for _ in 0..1_000 {
+        let case = generator.overload();
+        let (need, more) = (case.table_need(), case.table_need_with_insides());
+        if need == more {
+            continue;
+        }
+        for numbers in [need - 1, need, need + 1, need + 6, more - 1, more] {
+            let mut calls = vec![What::Start(case.kind)];
+            calls.extend(case.message.chunks(1).map(What::Part));
+            calls.push(What::End);
+            let calls = calls.into_iter().map(|what| Call { what, state: state_octets(), table: 2 * numbers, five: 10 });
+            let feed = Feed { calls: calls.collect() };
+            assert_eq!(feed_difference(&feed), None, "{numbers} numbers\n{}", second::lines::case_line(&case));
+            count += 1;
+        }
+    }
+    assert!(count > 1_000, "only {count} were fed");
+}
+
 #[test]
 fn pieces_at_the_limits() {
     let mut generator = Generator::new(1023);
@@ -245,7 +304,8 @@ fn rubbish(random: &mut Random, generator: &mut Generator, table: &mut [u8]) -> 
         1 => vec![*random.pick(&[0, 1, 0x7F, 0x80, 0xFF]); length],
         _ => {
             let mut state = random.octets(length);
-            let case = generator.case();
+            // within a group that may turn out void there is more to remember
+            let case = if random.percent(30) { generator.overload() } else { generator.case() };
             trials::start(case.kind, &mut state, table);
             let part = &case.message[..random.below(case.message.len() + 1)];
             trials::part(&mut state, part, table, &mut []);

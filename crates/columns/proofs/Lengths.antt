@@ -1,4 +1,5 @@
--- A row's line has at most 158 octets where values are cut: of a value at most 32 octets are shown, or one and that the rest is covered. Assumes nothing.
+-- A row's line has at most 158 octets where values are cut: of a value at most 32 octets are shown, or one and that the rest is covered, and of a
+-- void group none. Assumes nothing.
 use mathlib.Core.Path.{_≡_, refl}
 use mathlib.Core.Bool.{Bool, true, false, cond, _&&_, _||_}
 use mathlib.Core.List.{List, [], _∷_, _++_}
@@ -8,15 +9,16 @@ use lib.Dec.{eqb, ltb}
 use borrow.Author.Tests.{eqb-false, ltb-false}
 use lib.ListN.{length, take, length-append, length-take}
 use Rattle.rules.specs.Types.{coversWhole, coversRest}
+use Rattle.rules.specs.Standing.{kept, short, void}
 use Rattle.rules.specs.Covered.{isAside, openOctets}
 use Rattle.rules.specs.Values.{tableRows, rowParent, rowType, rowPlace, rowStanding}
 use Rattle.rules.specs.declared.Verdict.{Verdict}
 use Rattle.wording.specs.Pieces.{hexes}
 use Rattle.wording.proofs.Turns.{turns-length, hexes-length}
 use Rattle.phrases.specs.Words.{words}
-use Rattle.phrases.specs.Table.{rows, endings, marks, covers}
+use Rattle.phrases.specs.Table.{rows, endings, marks, covers, voids}
 use Rattle.phrases.specs.Sentences.{said, narrow}
-use Rattle.phrases.proofs.Lengths.{row-length, ending-length, mark-length, cover-length}
+use Rattle.phrases.proofs.Lengths.{row-length, ending-length, mark-length, cover-length, void-length}
 use Rattle.columns.specs.Values.{entered, seenOctets, octetsText, valueText, ending}
 use Rattle.columns.specs.Rows.{rowRun, valueOf, marked, rowLine, rowLines}
 use Rattle.columns.specs.declared.View.{View}
@@ -31,7 +33,7 @@ one-case false false z n e = absurd (e refl)
 seen-one : (right : Bool) (t s n : ℕ) → (seenOctets right t s n ≡ n → ⊥) → seenOctets right t s n ≤ 1
 unfolding seenOctets openOctets
 seen-one true t s n e = absurd (e refl)
-seen-one false t s n e = one-case (isAside s || coversWhole t) (coversRest t) (ltb 0 n) n e
+seen-one false t s n e = one-case (isAside s || coversWhole t) (coversRest t && (eqb s kept || eqb s short)) (ltb 0 n) n e
 
 octets-length : (part : List ℕ) → length (octetsText false part) ≤ 66
 unfolding octetsText
@@ -61,14 +63,16 @@ module _ (names : List ℕ) where
 
     end-length : (w : View) → w .full ≡ false → (t s : ℕ) (part : List ℕ) → length (ending names run w t s part) ≤ 77
     unfolding ending
-    end-length w f t s part = rw f (go (entered t s || eqb (length part) 0))
+    end-length w f t s part = rw f (go (eqb s void) (entered t s || eqb (length part) 0))
       where
         n : ℕ
         n = seenOctets (w .right) t s (length part)
 
-        go : (c : Bool) → length (cond c (said names run endings 0) (said names run endings 1 ++ valueText names run false n part)) ≤ 77
-        go true = omega (arith, ending-length names run 0)
-        go false = omega (arith, ending-length names run 1, value-length n part (seen-one (w .right) t s (length part)), length-append (said names run endings 1) (valueText names run false n part))
+        go : (a c : Bool)
+            → length (cond a (said names run endings 1 ++ said names run voids s) (cond c (said names run endings 0) (said names run endings 1 ++ valueText names run false n part))) ≤ 77
+        go true c = omega (arith, ending-length names run 1, void-length names run s, length-append (said names run endings 1) (said names run voids s))
+        go false true = omega (arith, ending-length names run 0)
+        go false false = omega (arith, ending-length names run 1, value-length n part (seen-one (w .right) t s (length part)), length-append (said names run endings 1) (valueText names run false n part))
 
   module _ (w : View) (f : w .full ≡ false) (v : Verdict) (table m c : List ℕ) where
     line-length : (r : ℕ) → length (rowLine names w v table m c r) ≤ 158

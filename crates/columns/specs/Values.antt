@@ -5,11 +5,11 @@ use mathlib.Core.List.{List, _++_}
 use lib.Dec.{eqb, ltb}
 use lib.ListN.{length, take}
 use Rattle.rules.specs.Types.{isGroup}
-use Rattle.rules.specs.Standing.{kept}
+use Rattle.rules.specs.Standing.{kept, void}
 use Rattle.rules.specs.Covered.{openOctets}
 use Rattle.wording.specs.Pieces.{hexes}
 use Rattle.phrases.specs.Words.{words}
-use Rattle.phrases.specs.Table.{covers, endings}
+use Rattle.phrases.specs.Table.{covers, endings, voids}
 use Rattle.phrases.specs.Sentences.{said, narrow}
 use Rattle.columns.specs.declared.View.{View}
 
@@ -34,8 +34,9 @@ module _ (names run : List ℕ) where
   unfoldable pub valueText : Bool → ℕ → List ℕ → List ℕ
   valueText full n part = cond (eqb n (length part)) (octetsText full part) (hexes (take n part) ++ said names run covers (narrow n))
 
-  -- the standing of a row, in a column if a value follows
+  -- the standing of a row, in a column if a value follows; of a void group no octet is shown, and why it is set aside stands there instead
   unfoldable pub ending : View → ℕ → ℕ → List ℕ → List ℕ
   ending w t s part =
-      cond (entered t s || eqb (length part) 0) (said names run endings 0)
-      (said names run endings 1 ++ valueText (w .full) (seenOctets (w .right) t s (length part)) part)
+      cond (eqb s void) (said names run endings 1 ++ said names run voids s)
+      (cond (entered t s || eqb (length part) 0) (said names run endings 0)
+      (said names run endings 1 ++ valueText (w .full) (seenOctets (w .right) t s (length part)) part))

@@ -5,12 +5,13 @@ ghost use Prim.Native.Nat.{_≤_};
 ghost use lib.ListN.{length, take};
 ghost use Rattle.wording.specs.Puts.{Puts};
 ghost use Rattle.wording.specs.Pieces.{hexes};
-ghost use Rattle.phrases.specs.Table.{covers};
+ghost use Rattle.phrases.specs.Table.{covers, endings, voids};
 ghost use Rattle.phrases.specs.Sentences.{said, narrow};
 ghost use Rattle.columns.specs.Values.{typeOctet, entered, seenOctets, octetsText, valueText, ending};
 use crate::View;
 use phrases::COVERS;
 use phrases::ENDINGS;
+use phrases::VOIDS;
 use phrases::runs::narrow;
 use phrases::sentences::say;
 
@@ -87,7 +88,15 @@ fn value(
     covered(names, run, n, part, at, out)
 }
 
-// The standing, in a column if a value follows.
+// A void group's standing in its column, and why it is set aside.
+fn set_aside(names: &[u8], run: &[u16], stand: u16, at: usize, out: &mut [u8]) -> usize
+    ensures { λ r. ⌜ Puts (said (now (names .entry)) (now (run .entry)) endings 1 ++ said (now (names .entry)) (now (run .entry)) voids stand) at (now (out .entry)) r (now (out .exit)) ⌝ }
+{
+    let after = say(ENDINGS, 1, names, run, at, out);
+    say(VOIDS, stand, names, run, after, out)
+}
+
+// The standing, in a column if a value follows. No octet of a void group is shown.
 pub(crate) fn ending(
     names: &[u8],
     run: &[u16],
@@ -100,6 +109,9 @@ pub(crate) fn ending(
 ) -> usize
     ensures { λ r. ⌜ Puts (ending (now (names .entry)) (now (run .entry)) view typ stand (now (part .entry))) at (now (out .entry)) r (now (out .exit)) ⌝ }
 {
+    if stand == 4 {
+        return set_aside(names, run, stand, at, out);
+    }
     if entered(typ, stand) {
         return say(ENDINGS, 0, names, run, at, out);
     }

@@ -18,16 +18,17 @@ use Rattle.rules.specs.Listings.{Book, Line, listing}
 use Rattle.rules.specs.Standing.{Item, fresh, kept, isListed, lineIn, lineNumber, standing, marked, entered, itemOf}
 use Rattle.rules.specs.Met.{At, Met, ends, alone, group}
 use Rattle.rules.specs.Sound.{sound}
+use Rattle.rules.specs.Frames.{Element, element as readWith, framesOf, seen}
 use Rattle.rules.specs.declared.Head.{Head}
 use Rattle.rules.proofs.Lines.{seek-lists, lists-is, sound-line, line-sound}
 use Rattle.rules.proofs.Mets.{some-octets}
-use Rattle.rules.proofs.Standings.{Case, is-unexpected, is-repeated, is-short, is-kept, standing-case, entered-inside}
+use Rattle.rules.proofs.Standings.{Case, is-unexpected, is-repeated, is-short, is-kept, is-void, standing-case, entered-inside}
 use Rattle.rules.specs.Emitting.{Piece, headOctets}
 use Rattle.emitted.proofs.Forests.{element}
 
--- the head of an element with this value
-abbrev pub headWith : ℕ → ℕ → List ℕ → Head
-headWith t f ys = record { whole = true; typ = t; inst = f % 16; len = length ys; first = getD ys 0 0 }
+-- what is read off an element with this value
+abbrev pub headWith : ℕ → ℕ → List ℕ → Element
+headWith t f ys = record { whole = true; typ = t; inst = f % 16; len = length ys; first = getD ys 0 0; within = framesOf ys }
 
 module _ (t f : ℕ) (ys zs : List ℕ) where
   abbrev joined : List ℕ
@@ -47,20 +48,26 @@ module _ (t f : ℕ) (ys zs : List ℕ) where
   first-value [] n e = rw (eq-eqb n 0 e)
   first-value (u ∷ us) n e = rw (ne-eqb n 0 (λ z. omega arith))
 
-  pub element-head : headOf (element t f ys ++ zs) ≡ headWith t f ys
+  head-octets : headOf (element t f ys ++ zs) ≡ record { whole = true; typ = t; inst = f % 16; len = length ys; first = getD ys 0 0 }
   unfolding headOf
-  element-head =
+  head-octets =
       let a : elementHeader ≤ length (element t f ys ++ zs) = omega (arith, element-length) in
       let c : valueLength (element t f ys ++ zs) ≤ length (element t f ys ++ zs) - elementHeader = omega (arith, element-length, two) in
       let raw : headOf (element t f ys ++ zs)
       ≡ record { whole = true; typ = t; inst = f % 16; len = valueLength (element t f ys ++ zs); first = firstOctet (element t f ys ++ zs) } = simp (le-leb _ _ a, le-leb _ _ c) in
       raw ∙ heads _ _ _ _ two (first-value ys (valueLength (element t f ys ++ zs)) two)
 
-  pub element-at : At (element t f ys ++ zs) (headWith t f ys)
-  element-at = record { is = element-head; whole = refl }
-
   pub element-value : take (length ys) (drop elementHeader (element t f ys ++ zs)) ≡ ys
   element-value = take-append-seam ys zs
+
+  pub element-head : seen (element t f ys ++ zs) ≡ headWith t f ys
+  unfolding seen
+  element-head =
+      ap (λ (h : Head). readWith h (framesOf (take (h .len) (drop elementHeader (element t f ys ++ zs))))) head-octets
+      ∙ ap (λ (us : List ℕ). readWith (record { whole = true; typ = t; inst = f % 16; len = length ys; first = getD ys 0 0 }) (framesOf us)) element-value
+
+  pub element-at : At (element t f ys ++ zs) (headWith t f ys)
+  element-at = record { is = element-head; whole = refl }
 
   pub element-rest : drop (elementHeader + length ys) (element t f ys ++ zs) ≡ zs
   element-rest = drop-at (element t f ys) zs (elementHeader + length ys) (omega arith)
@@ -89,12 +96,12 @@ module _ (t f : ℕ) (ys zs : List ℕ) where
           → Met b k v (marked b k v m (headWith t f ys)) p (n + 1 + length is) (at + elementHeader + length ys) zs es
           → Apart (itemOf b k v m p at (headWith t f ys) ∷ (is ++ es))
 
-    apart-alone : (xs : List ℕ) {es : List Item} (h : Head) → xs ≡ element t f ys ++ zs → h ≡ headWith t f ys → entered b k v m h ≡ 0
+    apart-alone : (xs : List ℕ) {es : List Item} (h : Element) → xs ≡ element t f ys ++ zs → h ≡ headWith t f ys → entered b k v m h ≡ 0
         → Met b k v (marked b k v m h) p (n + 1) (at + elementHeader + h .len) (drop (elementHeader + h .len) xs) es
         → Apart (itemOf b k v m p at h ∷ es)
     apart-alone xs h c q e d = rw q (one (rw q at e) (rw (c, q, element-rest) at d))
 
-    apart-group : (xs : List ℕ) {is es : List Item} (h : Head) (g : ℕ) → xs ≡ element t f ys ++ zs → h ≡ headWith t f ys → entered b k v m h ≡ suc g
+    apart-group : (xs : List ℕ) {is es : List Item} (h : Element) (g : ℕ) → xs ≡ element t f ys ++ zs → h ≡ headWith t f ys → entered b k v m h ≡ suc g
         → Met b k (suc g) fresh (n + 1) (n + 1) (at + elementHeader) (take (h .len) (drop elementHeader xs)) is
         → Met b k v (marked b k v m h) p (n + 1 + length is) (at + elementHeader + h .len) (drop (elementHeader + h .len) xs) es
         → Apart (itemOf b k v m p at h ∷ (is ++ es))
@@ -102,20 +109,21 @@ module _ (t f : ℕ) (ys zs : List ℕ) where
 
     taken-by : (xs : List ℕ) {es : List Item} → xs ≡ element t f ys ++ zs → Met b k v m p n at xs es → Apart es
     taken-by xs c ends = absurd (omega (arith, ap length c, element-length))
-    taken-by xs c (alone h a e d) = apart-alone xs h c (sym (a .is) ∙ ap headOf c ∙ element-head) e d
-    taken-by xs c (group h g a e d r) = apart-group xs h g c (sym (a .is) ∙ ap headOf c ∙ element-head) e d r
+    taken-by xs c (alone h a e d) = apart-alone xs h c (sym (a .is) ∙ ap seen c ∙ element-head) e d
+    taken-by xs c (group h g a e d r) = apart-group xs h g c (sym (a .is) ∙ ap seen c ∙ element-head) e d r
 
     pub taken-off : {es : List Item} → Met b k v m p n at (element t f ys ++ zs) es → Apart es
     taken-off d = taken-by (element t f ys ++ zs) refl d
 
 -- ---- what is kept is entered exactly where its type is a group
 
-module _ (b : Book) (fine : sound b ≡ true) (k v : ℕ) (m : List ℕ) (h : Head) (s : standing b k v m h ≡ kept) where
+module _ (b : Book) (fine : sound b ≡ true) (k v : ℕ) (m : List ℕ) (h : Element) (s : standing b k v m h ≡ kept) where
   listed-by : (c : ℕ) → Case b k v m h c → c ≡ kept → isListed b k v h ≡ true
   listed-by c (is-unexpected a) z = absurd (omega arith)
   listed-by c (is-repeated a x y) z = a
   listed-by c (is-short a x y) z = a
-  listed-by c (is-kept a x y) z = a
+  listed-by c (is-kept a x y o) z = a
+  listed-by c (is-void a x y o) z = a
 
   pub kept-listed : isListed b k v h ≡ true
   kept-listed = listed-by (standing b k v m h) (standing-case b k v m h) s

@@ -11,23 +11,26 @@ use borrow.Author.Tests.{eqb-true, eqb-false, eq-eqb, ne-eqb}
 use lib.Dec.{eqb}
 use lib.ListN.{length, take, drop, getD, length-append, length-replicate, take-append-drop, List·getD-append}
 use lib.Seq.{length-take-le, getD-take, getD-drop}
-use Rattle.rules.specs.Framing.{octet, elementHeader, valueLength, firstOctet, headOf}
+use Rattle.rules.specs.Framing.{octet, elementHeader, valueLength, firstOctet}
 use Rattle.rules.specs.Types.{isGroup}
 use Rattle.rules.specs.Listings.{Book}
-use Rattle.rules.specs.Standing.{Item, fresh, kept, mostLines, standing, isShort, marked, entered, itemOf, valuePlace}
+use Rattle.rules.specs.Standing.{Item, fresh, kept, mostLines, lineIn, isShort, isOver, standing, marked, entered, itemOf, valuePlace}
 use Rattle.rules.specs.Met.{At, Met, ends, alone, group}
 use Rattle.rules.specs.Sound.{sound}
-use Rattle.rules.specs.declared.Head.{Head}
-use Rattle.rules.proofs.Heads.{head-is, fits, rest-length, value-length, wholeHead}
+use Rattle.rules.specs.Frames.{Frame, Element}
+use Rattle.rules.specs.Late.{directs}
+use Rattle.rules.proofs.Heads.{at-is, at-len, at-within, fits, value-length}
 use Rattle.rules.proofs.Standings.{entered-kept, marked-length}
-use Rattle.rules.proofs.Covers.{group-type}
+use Rattle.rules.proofs.Covers.{group-type, group-long}
+use Rattle.rules.proofs.Frames.{Filled, none as no-frames, frameIn, frames-of, filled-more}
+use Rattle.rules.proofs.Late.{met-directs}
 use Rattle.rules.proofs.Rows.{Every, every-append}
 use Rattle.rules.specs.Emitting.{Piece, stays, remaining}
 use Rattle.rules.specs.Cleaned.{received, pieces}
 use Rattle.emitted.proofs.Forests.{Forest, none, aside, leaf, node, element, grown}
-use Rattle.emitted.proofs.Elements.{headWith, put-alone, put-group, kept-group}
+use Rattle.emitted.proofs.Elements.{headWith, element-at, element-rest, put-alone, put-group, kept-group}
 use Rattle.emitted.proofs.Again.{Here, here-taken, here-front, here-back, here-octet, Counts, counts-split, pieces-append, pieces-length, Kept}
-use Rattle.emitted.proofs.Fewer.{Fewer, kept-too, entered-too, fewer-kept, fewer-aside, group-long, kept-long}
+use Rattle.emitted.proofs.Fewer.{Fewer, Sparser, kept-too, entered-too, fewer-kept, fewer-aside, kept-within, sparser-under, sparser-none, sparser-aside, sparser-past, sparser-kept}
 
 -- ---- an element as it was received
 
@@ -39,7 +42,7 @@ here-drop w at xs n l h =
 pub here-take : (w : List ℕ) (at : ℕ) (xs : List ℕ) (n : ℕ) → Here w at xs → Here w at (take n xs)
 here-take w at xs n h = here-front w at (take n xs) (drop n xs) (rw (take-append-drop n xs) h)
 
-module _ (w : List ℕ) (at : ℕ) (xs : List ℕ) (h : Head) (a : At xs h) (here : Here w at xs) where
+module _ (w : List ℕ) (at : ℕ) (xs : List ℕ) (h : Element) (a : At xs h) (here : Here w at xs) where
   pub value-here : Here w (at + elementHeader) (take (h .len) (drop elementHeader xs))
   value-here = here-take w (at + elementHeader) (drop elementHeader xs) (h .len) (here-drop w at xs elementHeader (omega (arith, fits a)) here)
 
@@ -56,31 +59,31 @@ module _ (w : List ℕ) (at : ℕ) (xs : List ℕ) (h : Head) (a : At xs h) (her
   pub fourth-is : octet w (at + 3) ≡ octet xs 3
   fourth-is = here-octet w at xs here 3 ∙ List·getD-append xs (here .rest) 0 3 (omega (arith, fits a))
 
-  head-same : h ≡ wholeHead xs
-  head-same = sym (a .is) ∙ head-is xs (rw (a .is) (a .whole))
-
   pub inst-is : octet w (at + 3) % 16 ≡ h .inst
-  inst-is = ap (λ (x : ℕ). x % 16) fourth-is ∙ sym (ap (λ (x : Head). x .inst) head-same)
+  inst-is = ap (λ (x : ℕ). x % 16) fourth-is ∙ sym (ap (λ (x : Element). x .inst) (at-is a))
 
   first-is : (n : ℕ) → n ≡ h .len → getD (take (h .len) (drop elementHeader xs)) 0 0 ≡ cond (eqb n 0) 0 (octet xs elementHeader)
   first-is zero e = let z : h .len ≡ 0 = sym e in rw z
   first-is (suc n) e =
       rw (ne-eqb (suc n) 0 (λ z. omega arith)) (getD-take (h .len) (drop elementHeader xs) 0 0 (omega arith) ∙ getD-drop elementHeader xs 0 0)
 
-  heads : (i i′ n n′ f f′ : ℕ) → i ≡ i′ → n ≡ n′ → f ≡ f′
-      → _≡_ {A = Head} (record { whole = true; typ = h .typ; inst = i; len = n; first = f }) (record { whole = true; typ = h .typ; inst = i′; len = n′; first = f′ })
-  heads i i′ n n′ f f′ x y z = rw (x, y, z)
+  abbrev readAs : ℕ → ℕ → ℕ → List Frame → Element
+  readAs i n f fs = record { whole = true; typ = h .typ; inst = i; len = n; first = f; within = fs }
 
-  -- read again with the value that it was received with, its head is the same
+  heads : (i i′ n n′ f f′ : ℕ) (fs fs′ : List Frame) → i ≡ i′ → n ≡ n′ → f ≡ f′ → fs ≡ fs′ → readAs i n f fs ≡ readAs i′ n′ f′ fs′
+  heads i i′ n n′ f f′ fs fs′ x y z u = rw (x, y, z, u)
+
+  -- read again with the value that it was received with, it is the same
   pub own-head : headWith (h .typ) (octet w (at + 3)) (take (h .len) (drop (at + elementHeader) w)) ≡ h
   own-head =
       let l : length (take (h .len) (drop elementHeader xs)) ≡ h .len = value-length xs (h .len) (fits a) in
-      let n : h .len ≡ valueLength xs = ap (λ (x : Head). x .len) head-same in
-      let f : h .first ≡ firstOctet xs = ap (λ (x : Head). x .first) head-same in
-      rw value-is (heads _ (h .inst) _ (h .len) _ (h .first) inst-is l (first-is (valueLength xs) (sym n) ∙ sym f) ∙ whole-head h (a .whole))
+      let f : h .first ≡ firstOctet xs = ap (λ (x : Element). x .first) (at-is a) in
+      rw value-is (heads _ (h .inst) _ (h .len) _ (h .first) _ (h .within) inst-is l (first-is (valueLength xs) (sym (at-len a)) ∙ sym f) (sym (at-within a)) ∙ whole-element h (a .whole))
     where
-      whole-head : (g : Head) → g .whole ≡ true → _≡_ {A = Head} (record { whole = true; typ = g .typ; inst = g .inst; len = g .len; first = g .first }) g
-      whole-head g e = ap (λ (o : Bool). record { whole = o; typ = g .typ; inst = g .inst; len = g .len; first = g .first }) (sym e)
+      whole-element : (g : Element) → g .whole ≡ true
+          → _≡_ {A = Element} (record { whole = true; typ = g .typ; inst = g .inst; len = g .len; first = g .first; within = g .within }) g
+      whole-element g e =
+          ap (λ (o : Bool). record { whole = o; typ = g .typ; inst = g .inst; len = g .len; first = g .first; within = g .within }) (sym e)
 
 -- ---- the kept rows of a run
 
@@ -121,10 +124,14 @@ module _ (b : Book) (fine : sound b ≡ true) (k : ℕ) (w : List ℕ) (anew : �
     pub met : Met b k v mc (anew p) (anew n) at (grown forest) items
     pub all-kept : Every Kept items
     pub kin : Kin anew n es items
+    -- what it is filled with, by headers alone: no more of a pair than was received
+    pub frames : List Frame
+    pub filled : Filled (grown forest) frames
+    pub sparser : Sparser frames (directs p es)
 
   run-ends : (v : ℕ) (mc : List ℕ) (p n at : ℕ) → Run v mc p n at []
   unfolding pieces grown Every
-  run-ends v mc p n at = record { rows = []; rows-are = refl; forest = none; items = []; met = ends; all-kept = tt; kin = nobody }
+  run-ends v mc p n at = record { rows = []; rows-are = refl; forest = none; items = []; met = ends; all-kept = tt; kin = nobody; frames = []; filled = no-frames; sparser = sparser-none p }
 
   run-aside : (i : Item) (es : List Item) (v : ℕ) (mc : List ℕ) (p n at : ℕ) → i .parent ≡ p → eqb (i .stand) kept ≡ false
       → Counts anew n (pieces w (i ∷ es)) → Run v mc p (n + 1) at es → Run v mc p n at (i ∷ es)
@@ -139,12 +146,15 @@ module _ (b : Book) (fine : sound b ≡ true) (k : ℕ) (w : List ℕ) (anew : �
         met = rw same at (r .met);
         all-kept = r .all-kept;
         kin = gone i s same (r .kin);
+        frames = r .frames;
+        filled = r .filled;
+        sparser = sparser-aside p i (r .frames) es (r .sparser);
       }
 
   module _ (i : Item) (v : ℕ) (mc : List ℕ) (p n at : ℕ) (ys : List ℕ) (e : i .parent ≡ p) (s : i .stand ≡ kept)
       (z : standing b k v mc (headWith (i .typ) (octet w (i .place + 3)) ys) ≡ kept) (q : octet w (i .place + 3) % 16 ≡ i .inst)
       (g : entered b k v mc (headWith (i .typ) (octet w (i .place + 3)) ys) ≡ i .inside) where
-    abbrev inHead : Head
+    abbrev inHead : Element
     inHead = headWith (i .typ) (octet w (i .place + 3)) ys
 
     abbrev inItem : Item
@@ -177,17 +187,20 @@ module _ (b : Book) (fine : sound b ≡ true) (k : ℕ) (w : List ℕ) (anew : �
         met = rw g (put-alone (i .typ) (octet w (i .place + 3)) (take (i .len) (drop (valuePlace i) w)) (grown (r .forest)) b k v mc (anew p) (anew n) at o (rw next at (r .met)));
         all-kept = (is-kept i v mc p n at (take (i .len) (drop (valuePlace i) w)) e s z q (o ∙ sym u), r .all-kept);
         kin = both i _ (stands i v mc p n at (take (i .len) (drop (valuePlace i) w)) e s z q (o ∙ sym u)) next (r .kin);
+        frames = frameIn (headWith (i .typ) (octet w (i .place + 3)) ys) ∷ r .frames;
+        filled = rw g (filled-more (element-at (i .typ) (octet w (i .place + 3)) ys (grown (r .forest))) (rw (element-rest (i .typ) (octet w (i .place + 3)) ys (grown (r .forest))) (r .filled)));
+        sparser = sparser-kept p i (frameIn (headWith (i .typ) (octet w (i .place + 3)) ys)) (r .frames) es e refl q (r .sparser);
       }
 
   run-node : (i : Item) (is es : List Item) (v : ℕ) (mc : List ℕ) (p n at g : ℕ) → i .parent ≡ p → i .stand ≡ kept → isGroup (i .typ) ≡ true
       → octet w (i .place + 3) % 16 ≡ i .inst → i .inside ≡ suc g → Counts anew n (pieces w (i ∷ (is ++ es)))
-      → ((ys : List ℕ) → standing b k v mc (headWith (i .typ) (octet w (i .place + 3)) ys) ≡ kept)
-      → ((ys : List ℕ) → entered b k v mc (headWith (i .typ) (octet w (i .place + 3)) ys) ≡ suc g)
-      → Run (suc g) fresh (n + 1) (n + 1) (at + elementHeader) is
+      → (inn : Run (suc g) fresh (n + 1) (n + 1) (at + elementHeader) is)
+      → standing b k v mc (headWith (i .typ) (octet w (i .place + 3)) (grown (inn .forest))) ≡ kept
+      → entered b k v mc (headWith (i .typ) (octet w (i .place + 3)) (grown (inn .forest))) ≡ suc g
       → ((ys : List ℕ) (at′ : ℕ) → Run v (marked b k v mc (headWith (i .typ) (octet w (i .place + 3)) ys)) p (n + 1 + length is) at′ es)
       → Run v mc p n at (i ∷ (is ++ es))
   unfolding pieces received grown Counts Every
-  run-node i is es v mc p n at g e s t q u c z o inn rest =
+  run-node i is es v mc p n at g e s t q u c inn z o rest =
       let next : anew (n + 1) ≡ anew n + 1 = c .0 ∙ rw (eq-eqb (i .stand) kept s) in
       let size : length (inn .rows) ≡ length is = ap length (inn .rows-are) ∙ pieces-length w is in
       let r : Run v (marked b k v mc (headWith (i .typ) (octet w (i .place + 3)) (grown (inn .forest)))) p (n + 1 + length (inn .rows)) (at + elementHeader + length (grown (inn .forest))) es =
@@ -198,21 +211,25 @@ module _ (b : Book) (fine : sound b ≡ true) (k : ℕ) (w : List ℕ) (anew : �
         rows-are = both-rows (received w i) (inn .rows) (pieces w is) (r .rows) (pieces w es) (inn .rows-are) (r .rows-are) ∙ rw (pieces-append w is es);
         forest = node (received w i) (eq-eqb (i .stand) kept s) e t (rw t) (inn .forest) (r .forest);
         items = itemOf b k v mc (anew p) at (headWith (i .typ) (octet w (i .place + 3)) (grown (inn .forest))) ∷ (inn .items ++ r .items);
-        met = put-group (i .typ) (octet w (i .place + 3)) (grown (inn .forest)) (grown (r .forest)) b k v mc (anew p) (anew n) at g (o (grown (inn .forest)))
+        met = put-group (i .typ) (octet w (i .place + 3)) (grown (inn .forest)) (grown (r .forest)) b k v mc (anew p) (anew n) at g o
             (rw next at (inn .met)) (rw count at (r .met));
-        all-kept = (is-kept i v mc p n at (grown (inn .forest)) e s (z (grown (inn .forest))) q (o (grown (inn .forest)) ∙ sym u), every-append Kept (inn .items) (r .items) (inn .all-kept) (r .all-kept));
-        kin = both i _ (stands i v mc p n at (grown (inn .forest)) e s (z (grown (inn .forest))) q (o (grown (inn .forest)) ∙ sym u)) next
+        all-kept = (is-kept i v mc p n at (grown (inn .forest)) e s z q (o ∙ sym u), every-append Kept (inn .items) (r .items) (inn .all-kept) (r .all-kept));
+        kin = both i _ (stands i v mc p n at (grown (inn .forest)) e s z q (o ∙ sym u)) next
             (kin-append es (r .items) (inn .kin) (rw size at (r .kin)));
+        frames = frameIn (headWith (i .typ) (octet w (i .place + 3)) (grown (inn .forest))) ∷ r .frames;
+        filled = filled-more (element-at (i .typ) (octet w (i .place + 3)) (grown (inn .forest)) (grown (r .forest)))
+            (rw (element-rest (i .typ) (octet w (i .place + 3)) (grown (inn .forest)) (grown (r .forest))) (r .filled));
+        sparser = sparser-kept p i (frameIn (headWith (i .typ) (octet w (i .place + 3)) (grown (inn .forest)))) (r .frames) (is ++ es) e refl q (sparser-past p is (r .frames) es (r .sparser));
       }
 
   -- ---- the law
 
-  pub no-group : (v : ℕ) (m : List ℕ) (h : Head) → standing b k v m h ≡ kept → entered b k v m h ≡ 0 → (c : Bool) → isGroup (h .typ) ≡ c → isGroup (h .typ) ≡ false
+  pub no-group : (v : ℕ) (m : List ℕ) (h : Element) → standing b k v m h ≡ kept → entered b k v m h ≡ 0 → (c : Bool) → isGroup (h .typ) ≡ c → isGroup (h .typ) ≡ false
   no-group v m h s e false g = g
   no-group v m h s e true g = let r = kept-group b fine k v m h s g in absurd (omega (arith, r .1))
 
   -- one element that is not entered
-  module _ (v : ℕ) (m : List ℕ) (p n at : ℕ) (xs : List ℕ) (es : List Item) (h : Head) (a : At xs h) (e : entered b k v m h ≡ 0) (here : Here w at xs)
+  module _ (v : ℕ) (m : List ℕ) (p n at : ℕ) (xs : List ℕ) (es : List Item) (h : Element) (a : At xs h) (e : entered b k v m h ≡ 0) (here : Here w at xs)
       (size : length m ≡ mostLines) (mc : List ℕ) (f : Fewer m mc) (at′ : ℕ) (c : Counts anew n (pieces w (itemOf b k v m p at h ∷ es)))
       (rec : (md : List ℕ) → Fewer (marked b k v m h) md → (to : ℕ) → Run v md p (n + 1) to es) where
     clean-alone : (y : Bool) → eqb (standing b k v m h) kept ≡ y → Run v mc p n at′ (itemOf b k v m p at h ∷ es)
@@ -221,30 +238,42 @@ module _ (b : Book) (fine : sound b ≡ true) (k : ℕ) (w : List ℕ) (anew : �
     clean-alone true s =
         let z : standing b k v m h ≡ kept = eqb-true _ _ s in
         let own = own-head w at xs h a here in
-        let y : standing b k v mc h ≡ kept = kept-too b k v m mc f h h refl refl z (kept-long b k v m h z) in
+        let l = kept-within b k v m h z in
+        let y : standing b k v mc h ≡ kept = kept-too b k v m mc f h h refl refl z (l .0) (l .1) in
         run-leaf (itemOf b k v m p at h) es v mc p n at′ refl z (no-group v m h z e (isGroup (h .typ)) refl) (rw own y) (inst-is w at xs h a here)
         (rw own (entered-too b k v m mc f h h refl refl z y ∙ e)) e c
         (λ to. rec (marked b k v mc (headWith (h .typ) (octet w (at + 3)) (take (h .len) (drop (at + elementHeader) w)))) (rw own (fewer-kept b k v m mc f h h refl refl z fine size)) to)
 
   -- one that is
-  module _ (v : ℕ) (m : List ℕ) (p n at : ℕ) (xs : List ℕ) (is es : List Item) (h : Head) (g : ℕ) (a : At xs h) (e : entered b k v m h ≡ suc g) (here : Here w at xs)
+  module _ (v : ℕ) (m : List ℕ) (p n at : ℕ) (xs : List ℕ) (is es : List Item) (h : Element) (g : ℕ) (a : At xs h) (e : entered b k v m h ≡ suc g) (here : Here w at xs)
       (size : length m ≡ mostLines) (mc : List ℕ) (f : Fewer m mc) (at′ : ℕ) (c : Counts anew n (pieces w (itemOf b k v m p at h ∷ (is ++ es))))
-      (inn : Run (suc g) fresh (n + 1) (n + 1) (at′ + elementHeader) is)
+      (inside : Filled (take (h .len) (drop elementHeader xs)) (directs (n + 1) is)) (inn : Run (suc g) fresh (n + 1) (n + 1) (at′ + elementHeader) is)
       (rec : (md : List ℕ) → Fewer (marked b k v m h) md → (to : ℕ) → Run v md p (n + 1 + length is) to es) where
     z : standing b k v m h ≡ kept
     z = entered-kept b k v m h (omega arith)
 
-    y : (ys : List ℕ) → standing b k v mc (headWith (h .typ) (octet w (at + 3)) ys) ≡ kept
-    y ys =
-        kept-too b k v m mc f h (headWith (h .typ) (octet w (at + 3)) ys) refl (inst-is w at xs h a here) z
-        (group-long (headWith (h .typ) (octet w (at + 3)) ys) (group-type b fine k v m h g e))
+    abbrev anewHead : Element
+    anewHead = headWith (h .typ) (octet w (at + 3)) (grown (inn .forest))
+
+    same-line : lineIn b k v anewHead ≡ lineIn b k v h
+    same-line = rw (inst-is w at xs h a here)
+
+    -- it holds no more of a pair than the group as it came, which was not over
+    under : isOver b k v anewHead ≡ false
+    under =
+        rw (same-line, frames-of (inn .filled))
+        (sparser-under (lineIn b k v h .limits) (inn .frames) (directs (n + 1) is) (inn .sparser) (rw (at-within a, frames-of inside) at (kept-within b k v m h z .1)))
+
+    y : standing b k v mc anewHead ≡ kept
+    y =
+        kept-too b k v m mc f h anewHead refl (inst-is w at xs h a here) z
+        (group-long anewHead (group-type b fine k v m h g e)) under
 
     clean-group : Run v mc p n at′ (itemOf b k v m p at h ∷ (is ++ es))
     unfolding itemOf
     clean-group =
-        run-node (itemOf b k v m p at h) is es v mc p n at′ g refl z (group-type b fine k v m h g e) (inst-is w at xs h a here) e c y
-        (λ ys. entered-too b k v m mc f h (headWith (h .typ) (octet w (at + 3)) ys) refl (inst-is w at xs h a here) z (y ys) ∙ e)
-        inn
+        run-node (itemOf b k v m p at h) is es v mc p n at′ g refl z (group-type b fine k v m h g e) (inst-is w at xs h a here) e c inn y
+        (entered-too b k v m mc f h anewHead refl (inst-is w at xs h a here) z y ∙ e)
         (λ ys to. rec (marked b k v mc (headWith (h .typ) (octet w (at + 3)) ys))
         (fewer-kept b k v m mc f h (headWith (h .typ) (octet w (at + 3)) ys) refl (inst-is w at xs h a here) z fine size) to)
 
@@ -261,6 +290,6 @@ module _ (b : Book) (fine : sound b ≡ true) (k : ℕ) (w : List ℕ) (anew : �
   clean-run (group {v = v} {m = m} {p = p} {n = n} {at = at} {xs = xs} {is = is} {es = es} h g a e d t) here size mc f at′ c =
       let cs = counts-split anew (n + 1) (pieces w is) (pieces w es) (rw (pieces-append w is es) at (c .1)) in
       let ct : Counts anew (n + 1 + length is) (pieces w es) = rw (pieces-length w is) at (cs .1) in
-      clean-group v m p n at xs is es h g a e here size mc f at′ c
+      clean-group v m p n at xs is es h g a e here size mc f at′ c (met-directs d (omega arith))
       (clean-run d (value-here w at xs h a here) fresh-size fresh (λ s q. q) (at′ + elementHeader) (cs .0))
       (λ md fd to. clean-run t (rest-here w at xs h a here) (marked-length b k v m h ∙ size) md fd to ct)

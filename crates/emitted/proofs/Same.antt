@@ -8,14 +8,14 @@ use borrow.Author.Tests.{eqb-true, eq-eqb}
 use lib.Dec.{eqb}
 use lib.ListN.{length, take, drop, getD, take-append-drop}
 use lib.Seq.{take-add}
-use Rattle.rules.specs.Framing.{octet, elementHeader, valueLength, headOf}
+use Rattle.rules.specs.Framing.{octet, elementHeader, valueLength}
 use Rattle.rules.specs.Types.{isGroup}
 use Rattle.rules.specs.Listings.{Book}
 use Rattle.rules.specs.Standing.{Item, fresh, kept, standing, marked, entered, itemOf, valuePlace}
 use Rattle.rules.specs.Met.{At, Met, ends, alone, group}
 use Rattle.rules.specs.Sound.{sound}
-use Rattle.rules.specs.declared.Head.{Head}
-use Rattle.rules.proofs.Heads.{head-is, fits, value-length, wholeHead}
+use Rattle.rules.specs.Frames.{Element}
+use Rattle.rules.proofs.Heads.{at-is, at-len, fits, value-length}
 use Rattle.rules.proofs.Covers.{group-type}
 use Rattle.rules.proofs.Rows.{Every, Octets, octets-drop, octets-take}
 use Rattle.rules.specs.Emitting.{Piece, stays, headOctets}
@@ -36,16 +36,13 @@ header-same (x ∷ y ∷ z ∷ u ∷ xs) n l e o =
     let q : n % 256 ≡ z = omega arith in
     rw (p, q)
 
-module _ (xs : List ℕ) (h : Head) (a : At xs h) (o : Octets xs) where
-  head-same : h ≡ wholeHead xs
-  head-same = sym (a .is) ∙ head-is xs (rw (a .is) (a .whole))
-
+module _ (xs : List ℕ) (h : Element) (a : At xs h) (o : Octets xs) where
   -- a header with the right length, a value of that length, and what follows
   pub element-same : (f : ℕ) (ys zs : List ℕ) → f ≡ octet xs 3 → ys ≡ take (h .len) (drop elementHeader xs) → zs ≡ drop (elementHeader + h .len) xs
       → element (h .typ) f ys ++ zs ≡ xs
   element-same f ys zs e c d =
-      let t : h .typ ≡ octet xs 0 = ap (λ (x : Head). x .typ) head-same in
-      let n : valueLength xs ≡ h .len = sym (ap (λ (x : Head). x .len) head-same) in
+      let t : h .typ ≡ octet xs 0 = ap (λ (x : Element). x .typ) (at-is a) in
+      let n : valueLength xs ≡ h .len = sym (at-len a) in
       let l : length (take (h .len) (drop elementHeader xs)) ≡ h .len = value-length xs (h .len) (fits a) in
       rw (e, c, d, t, l) (
       ap (λ (us : List ℕ). us ++ (take (h .len) (drop elementHeader xs) ++ drop (elementHeader + h .len) xs)) (header-same xs (h .len) (omega (arith, fits a)) n o)
@@ -62,7 +59,7 @@ module _ (b : Book) (fine : sound b ≡ true) (k : ℕ) (w : List ℕ) where
     pub forest : Forest p n rows
     pub grows-it : grown forest ≡ xs
 
-  kept-is : (v : ℕ) (m : List ℕ) (p at : ℕ) (h : Head) → Kept (itemOf b k v m p at h) → standing b k v m h ≡ kept
+  kept-is : (v : ℕ) (m : List ℕ) (p at : ℕ) (h : Element) → Kept (itemOf b k v m p at h) → standing b k v m h ≡ kept
   unfolding itemOf
   kept-is v m p at h z = z
 

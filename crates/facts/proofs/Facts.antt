@@ -7,6 +7,7 @@ use native.Mathlib.Omega.{arith}
 use borrow.Author.Tests.{eqb-true, ltb-true}
 use lib.Dec.{eqb, ltb}
 use Rattle.rules.specs.Types.{parteds, leastByType, leastOf, isParted, groups, isGroup, wholeTypes, coversWhole, restTypes, coversRest}
+use Rattle.rules.specs.Standing.{kept, short}
 use Rattle.rules.specs.Covered.{isAside, openOctets}
 use Rattle.rules.proofs.Lines.{and-left, and-right}
 use Rattle.rules.proofs.Covers.{least-unparted, group-not-whole, group-not-rest}
@@ -100,24 +101,25 @@ pub group-is : (t : ℕ) → t < 256 → groupIn facts t ≡ isGroup t
 unfolding groupIn markOf
 group-is t h = rw (rule t h .mark) (group-case (coversWhole t) (coversRest t) (isGroup t) (group-not-whole t) (group-not-rest t))
 
-open-case : (a w r g z : Bool) (n : ℕ)
-    → cond a 0 (cond (eqb (cond w 1 (cond r 2 (cond g 3 0))) 1) 0 (cond (eqb (cond w 1 (cond r 2 (cond g 3 0))) 2 && z) 1 n)) ≡ cond (a || w) 0 (cond (r && z) 1 n)
-open-case true w r g z n = refl
-open-case false true r g z n = refl
-open-case false false true g z n = refl
-open-case false false false true z n = refl
-open-case false false false false z n = refl
+open-case : (a w r g y z : Bool) (n : ℕ)
+    → cond a 0 (cond (eqb (cond w 1 (cond r 2 (cond g 3 0))) 1) 0 (cond (eqb (cond w 1 (cond r 2 (cond g 3 0))) 2 && y && z) 1 n)) ≡ cond (a || w) 0 (cond (r && y && z) 1 n)
+open-case true w r g y z n = refl
+open-case false true r g y z n = refl
+open-case false false true g y z n = refl
+open-case false false false true y z n = refl
+open-case false false false false y z n = refl
 
 pub open-is : (t s n : ℕ) → t < 256 → openIn facts t s n ≡ openOctets t s n
 unfolding openIn openOctets markOf
-open-is t s n h = rw (rule t h .mark) (open-case (isAside s) (coversWhole t) (coversRest t) (isGroup t) (ltb 0 n) n)
+open-is t s n h = rw (rule t h .mark) (open-case (isAside s) (coversWhole t) (coversRest t) (isGroup t) (eqb s kept || eqb s short) (ltb 0 n) n)
 
-most-case : (a r z : Bool) (n : ℕ) → ltb 0 n ≡ z → cond a 0 (cond (r && z) 1 n) ≤ n
-most-case true r z n e = omega arith
-most-case false true true n e = omega (arith, ltb-true 0 n e)
-most-case false true false n e = omega arith
-most-case false false z n e = omega arith
+most-case : (a r y z : Bool) (n : ℕ) → ltb 0 n ≡ z → cond a 0 (cond (r && y && z) 1 n) ≤ n
+most-case true r y z n e = omega arith
+most-case false true true true n e = omega (arith, ltb-true 0 n e)
+most-case false true true false n e = omega arith
+most-case false true false z n e = omega arith
+most-case false false y z n e = omega arith
 
 pub open-most : (t s n : ℕ) → openOctets t s n ≤ n
 unfolding openOctets
-open-most t s n = most-case (isAside s || coversWhole t) (coversRest t) (ltb 0 n) n refl
+open-most t s n = most-case (isAside s || coversWhole t) (coversRest t) (eqb s kept || eqb s short) (ltb 0 n) n refl

@@ -1,11 +1,12 @@
 -- What the rules say of a type number: the least length by a decision over ranges, groups and cover as a table with four types an octet. Assumes nothing.
 use mathlib.Core.Path.{_≡_}
-use mathlib.Core.Bool.{Bool, cond, _&&_}
+use mathlib.Core.Bool.{Bool, cond, _&&_, _||_}
 use mathlib.Core.List.{List, [], _∷_}
 use Prim.Native.Nat.{ℕ, zero, suc, _+_, _*_, _/_, _%_, _^_, _≤_, _<_}
 use lib.Dec.{eqb, ltb}
 use lib.ListN.{getD}
 use Rattle.rules.specs.Types.{leastOf, isGroup, coversWhole, coversRest}
+use Rattle.rules.specs.Standing.{kept, short}
 use Rattle.rules.specs.Covered.{isAside}
 
 -- ---- least lengths
@@ -60,7 +61,8 @@ groupIn xs t = eqb (markIn xs t) 3
 
 -- how many leading octets of a value of n octets are left open: none of one that is set aside
 unfoldable pub openIn : List ℕ → ℕ → ℕ → ℕ → ℕ
-openIn xs t s n = cond (isAside s) 0 (cond (eqb (markIn xs t) 1) 0 (cond (eqb (markIn xs t) 2 && ltb 0 n) 1 n))
+openIn xs t s n =
+    cond (isAside s) 0 (cond (eqb (markIn xs t) 1) 0 (cond (eqb (markIn xs t) 2 && (eqb s kept || eqb s short) && ltb 0 n) 1 n))
 
 -- a least length, which is small
 pub record Figure (least r : ℕ) : Type 0 where

@@ -228,9 +228,12 @@ pub fn open_octets(facts: &[u8; 64], typ: u8, stand: u16, len: usize) -> usize
     if by_type != 2 {
         return len;
     }
-    // 79 and 86 keep their first octet.
-    if 0 < len {
+    // 79 and 86 keep their first octet, where they are kept or short.
+    if len == 0 {
+        return 0;
+    }
+    if stand < 4 {
         return 1;
     }
-    0
+    len
 }

@@ -15,7 +15,7 @@ use Rattle.pieces.specs.declared.Open.{Open}
 use Rattle.pieces.specs.declared.Going.{Going}
 use Rattle.pieces.specs.declared.Pieces.{Pieces}
 use Rattle.pieces.specs.Coded.{noOpen}
-use Rattle.keeping.specs.Kept.{stateSize, fourOf, eightOf, numberOn, numberOf, run, numberAt, flagOf, isFlag, startOctets, countsOctets, walkOctets, openOctets, nth, stateOctets, keptIn, openAt, countsIn, walkIn, fieldsIn, stateIn, Formed}
+use Rattle.keeping.specs.Kept.{stateSize, fourOf, eightOf, numberOn, numberOf, run, numberAt, flagOf, isFlag, startOctets, countsOctets, walkOctets, watchOctets, openOctets, nth, stateOctets, keptIn, openAt, countsAt, walkIn, fieldsIn, stateIn, Formed}
 use Rattle.keeping.proofs.Storing.{length-run, first, second, length-first, length-second, length-state, kept-is}
 
 -- ---- numbers and bools
@@ -118,13 +118,14 @@ module _ (o : Open) (ys : List ℕ) where
 
 -- ---- a state
 
-counts-same : (c : Counts) {r k s g : ℕ} → r ≡ c .rows → k ≡ c .kept → s ≡ c .short → g ≡ c .gap → _≡_ {A = Counts} record { rows = r; kept = k; short = s; gap = g } c
-counts-same c r k s g = rw (r, k, s, g)
+counts-again : (c : Counts)
+    → _≡_ {A = Counts} record { rows = numberOf (eightOf (c .rows)); kept = numberOf (eightOf (c .kept)); short = numberOf (eightOf (c .short)); gap = numberOf (eightOf (c .gap)) } c
+counts-again c = rw (eight-again (c .rows), eight-again (c .kept), eight-again (c .short), eight-again (c .gap))
 
-going-same : (w : Going) {s : Bool} {d p h a : ℕ} {l : List Open} {m : List ℕ} {c : Counts}
-    → s ≡ w .stopped → d ≡ w .depth → l ≡ w .levels → p ≡ w .place → h ≡ w .have → m ≡ w .some → a ≡ w .pass → c ≡ w .counts
-    → _≡_ {A = Going} record { stopped = s; depth = d; levels = l; place = p; have = h; some = m; pass = a; counts = c } w
-going-same w s d l p h m a c = rw (s, d, l, p, h, m, a, c)
+going-same : (w : Going) {s f : Bool} {d p h a n : ℕ} {l : List Open} {m : List ℕ} {c b : Counts}
+    → s ≡ w .stopped → d ≡ w .depth → l ≡ w .levels → p ≡ w .place → h ≡ w .have → m ≡ w .some → a ≡ w .pass → c ≡ w .counts → f ≡ w .limited → n ≡ w .apns → b ≡ w .back
+    → _≡_ {A = Going} record { stopped = s; depth = d; levels = l; place = p; have = h; some = m; pass = a; counts = c; limited = f; apns = n; back = b } w
+going-same w s d l p h m a c f n b = rw (s, d, l, p, h, m, a, c, f, n, b)
 
 pieces-same : (p : Pieces) {k r c : ℕ} {e : Bool} {h : List ℕ} {w : Going}
     → k ≡ p .kind → r ≡ p .room → e ≡ p .ended → c ≡ p .count → h ≡ p .head → w ≡ p .going
@@ -139,21 +140,15 @@ two (a ∷ b ∷ c ∷ l) e = absurd (omega (arith, e))
 
 module _ (p : Pieces) (f : Formed p) where
   module _ (ys : List ℕ) where
-    counts-again : countsIn (first p ++ ys) ≡ p .going .counts
-    unfolding startOctets walkOctets countsOctets fourOf eightOf run countsIn
-    counts-again =
-        let c = p .going .counts in
-        counts-same c (eight-again (c .rows)) (eight-again (c .kept)) (eight-again (c .short)) (eight-again (c .gap))
-
-    walk-again : openAt (first p ++ ys) 94 ∷ openAt (first p ++ ys) 151 ∷ [] ≡ p .going .levels → walkIn (first p ++ ys) ≡ p .going
-    unfolding startOctets walkOctets countsOctets fourOf eightOf run walkIn
+    walk-again : openAt (first p ++ ys) 135 ∷ openAt (first p ++ ys) 192 ∷ [] ≡ p .going .levels → walkIn (first p ++ ys) ≡ p .going
+    unfolding startOctets walkOctets watchOctets countsOctets fourOf eightOf run countsAt walkIn
     walk-again e =
         let w = p .going in
         going-same w (flag-again (w .stopped)) (eight-again (w .depth)) e (eight-again (w .place)) (eight-again (w .have)) (run-whole 4 (w .some) (f .some-four))
-        (eight-again (w .pass)) counts-again
+        (eight-again (w .pass)) (counts-again (w .counts)) (flag-again (w .limited)) (eight-again (w .apns)) (counts-again (w .back))
 
     fields-again : walkIn (first p ++ ys) ≡ p .going → fieldsIn (first p ++ ys) ≡ p
-    unfolding startOctets walkOctets countsOctets fourOf eightOf run fieldsIn
+    unfolding startOctets walkOctets watchOctets countsOctets fourOf eightOf run fieldsIn
     fields-again e =
         pieces-same p (four-again (p .kind)) (eight-again (p .room)) (flag-again (p .ended)) (eight-again (p .count)) (run-whole 4 (p .head) (f .head-four)) e
 
@@ -161,20 +156,20 @@ module _ (p : Pieces) (f : Formed p) where
   unfolding stateOctets
   whole ys = append-assoc (second p) (openOctets (nth (p .going) 1)) ys ∙ append-assoc (first p) (openOctets (nth (p .going) 0)) (openOctets (nth (p .going) 1) ++ ys)
 
-  levels-again : (ys : List ℕ) → openAt (stateOctets p ++ ys) 94 ∷ openAt (stateOctets p ++ ys) 151 ∷ [] ≡ p .going .levels
+  levels-again : (ys : List ℕ) → openAt (stateOctets p ++ ys) 135 ∷ openAt (stateOctets p ++ ys) 192 ∷ [] ≡ p .going .levels
   unfolding stateOctets
   levels-again ys =
-      let outer : openAt (stateOctets p ++ ys) 94 ≡ nth (p .going) 0
-      = ap (λ (s : List ℕ). openAt s 94) (whole ys) ∙ open-again (nth (p .going) 0) (openOctets (nth (p .going) 1) ++ ys) (first p) 94 (length-first p) (f .marks-first) in
-      let inner : openAt (stateOctets p ++ ys) 151 ≡ nth (p .going) 1
-      = ap (λ (s : List ℕ). openAt s 151) (append-assoc (second p) (openOctets (nth (p .going) 1)) ys) ∙ open-again (nth (p .going) 1) ys (second p) 151 (length-second p) (f .marks-second) in
-      ap (λ (o : Open). o ∷ openAt (stateOctets p ++ ys) 151 ∷ []) outer ∙ ap (λ (o : Open). nth (p .going) 0 ∷ o ∷ []) inner ∙ two (p .going .levels) (f .levels-two)
+      let outer : openAt (stateOctets p ++ ys) 135 ≡ nth (p .going) 0
+      = ap (λ (s : List ℕ). openAt s 135) (whole ys) ∙ open-again (nth (p .going) 0) (openOctets (nth (p .going) 1) ++ ys) (first p) 135 (length-first p) (f .marks-first) in
+      let inner : openAt (stateOctets p ++ ys) 192 ≡ nth (p .going) 1
+      = ap (λ (s : List ℕ). openAt s 192) (append-assoc (second p) (openOctets (nth (p .going) 1)) ys) ∙ open-again (nth (p .going) 1) ys (second p) 192 (length-second p) (f .marks-second) in
+      ap (λ (o : Open). o ∷ openAt (stateOctets p ++ ys) 192 ∷ []) outer ∙ ap (λ (o : Open). nth (p .going) 0 ∷ o ∷ []) inner ∙ two (p .going .levels) (f .levels-two)
 
   all-again : (ys : List ℕ) → fieldsIn (stateOctets p ++ ys) ≡ p
   all-again ys =
       let rest : List ℕ = openOctets (nth (p .going) 0) ++ (openOctets (nth (p .going) 1) ++ ys) in
-      let e : openAt (first p ++ rest) 94 ∷ openAt (first p ++ rest) 151 ∷ [] ≡ p .going .levels
-      = ap (λ (s : List ℕ). openAt s 94 ∷ openAt s 151 ∷ []) (sym (whole ys)) ∙ levels-again ys in
+      let e : openAt (first p ++ rest) 135 ∷ openAt (first p ++ rest) 192 ∷ [] ≡ p .going .levels
+      = ap (λ (s : List ℕ). openAt s 135 ∷ openAt s 192 ∷ []) (sym (whole ys)) ∙ levels-again ys in
       ap fieldsIn (whole ys) ∙ fields-again rest (walk-again rest e)
 
   pub kept-again : (lent : List ℕ) → stateSize ≤ length lent → stateIn (keptIn p lent) ≡ p
@@ -190,6 +185,6 @@ formed s = record {
   head-four = length-run 4 _ 21;
   some-four = length-run 4 _ 50;
   levels-two = refl;
-  marks-first = length-run 32 _ (94 + 1);
-  marks-second = length-run 32 _ (151 + 1);
+  marks-first = length-run 32 _ (135 + 1);
+  marks-second = length-run 32 _ (192 + 1);
 }

@@ -1,8 +1,8 @@
 -- Octets that are set from a place on: a run after a run is one run. Assumes nothing.
---     run-four, four-set, sets-join, eight-set       four octets, a run after a run, and a number
---     none-moved, next-moved, all-moved, filled      the loops that store and load octet by octet
---     start-set, counts-set, walk-set, open-set      the parts of a state
---     unkept, state-kept                             a state, or nothing
+--     run-four, four-set, sets-join, eight-set               four octets, a run after a run, and a number
+--     none-moved, next-moved, all-moved, filled              the loops that store and load octet by octet
+--     start-set, counts-set, walk-set, watch-set, open-set   the parts of a state
+--     unkept, state-kept                                     a state, or nothing
 use mathlib.Core.Path.{_≡_, refl, sym, ap, _∙_}
 use mathlib.Core.List.{List, [], _∷_, _++_, append-nil}
 use Prim.Native.Nat.{ℕ, zero, suc, _+_, _/_, _%_, _≤_, _<_}
@@ -16,7 +16,7 @@ use Rattle.taking.specs.declared.Counts.{Counts}
 use Rattle.pieces.specs.declared.Open.{Open}
 use Rattle.pieces.specs.declared.Going.{Going}
 use Rattle.pieces.specs.declared.Pieces.{Pieces}
-use Rattle.keeping.specs.Kept.{stateSize, nth, stateOctets, keptIn, flagOf, fourOf, eightOf, run, startOctets, countsOctets, walkOctets, openOctets}
+use Rattle.keeping.specs.Kept.{stateSize, nth, stateOctets, keptIn, flagOf, fourOf, eightOf, run, startOctets, countsOctets, walkOctets, watchOctets, openOctets}
 
 pub run-four : (s : List ℕ) (n : ℕ) → getD s n 0 ∷ getD s (n + 1) 0 ∷ getD s (n + 2) 0 ∷ getD s (n + 3) 0 ∷ [] ≡ run 4 s n
 unfolding run
@@ -93,15 +93,26 @@ module _ (l : List ℕ) where
   unfolding startOctets fourOf eightOf run
   start-set p = refl
 
-  pub counts-set : (c : Counts) → sets (sets (sets (sets l 62 (eightOf (c .rows))) 70 (eightOf (c .kept))) 78 (eightOf (c .short))) 86 (eightOf (c .gap)) ≡ sets l 62 (countsOctets c)
+  pub counts-set : (c : Counts) (n : ℕ)
+      → sets (sets (sets (sets l n (eightOf (c .rows))) (n + 8) (eightOf (c .kept))) (n + 16) (eightOf (c .short))) (n + 24) (eightOf (c .gap)) ≡ sets l n (countsOctets c)
   unfolding countsOctets eightOf
-  counts-set c = refl
+  counts-set c n =
+      let two : List ℕ = eightOf (c .rows) ++ eightOf (c .kept) in
+      rw (
+        sets-join l n (eightOf (c .rows)) (eightOf (c .kept)) {m = n + 8} refl,
+        sets-join l n two (eightOf (c .short)) {m = n + 16} refl,
+        sets-join l n (two ++ eightOf (c .short)) (eightOf (c .gap)) {m = n + 24} refl,
+      )
 
   pub walk-set : (w : Going)
       → sets (sets (sets (sets (sets (sets (sets l 25 (flagOf (w .stopped) ∷ [])) 26 (eightOf (w .depth))) 34 (eightOf (w .place))) 42 (eightOf (w .have))) 50 (run 4 (w .some) 0)) 54 (eightOf (w .pass))) 62 (countsOctets (w .counts))
       ≡ sets l 25 (walkOctets w)
   unfolding walkOctets countsOctets eightOf run
   walk-set w = refl
+
+  pub watch-set : (w : Going) → sets (sets (sets l 94 (flagOf (w .limited) ∷ [])) 95 (eightOf (w .apns))) 103 (countsOctets (w .back)) ≡ sets l 94 (watchOctets w)
+  unfolding watchOctets countsOctets eightOf
+  watch-set w = refl
 
   pub open-set : (o : Open) (n : ℕ)
       → sets (sets (sets (sets (sets l n (o .level ∷ [])) (n + 1) (run 32 (o .marks) 0)) (n + 33) (eightOf (o .parent))) (n + 41) (eightOf (o .home))) (n + 49) (eightOf (o .left))
@@ -122,9 +133,12 @@ length-open : (o : Open) → length (openOctets o) ≡ 57
 unfolding openOctets eightOf
 length-open o = simp length-append (omega (arith, length-run 32 (o .marks) 0))
 
--- what stands before the levels, and with the outer one
+-- what stands before the watch, before the levels, and with the outer one
+abbrev walked : Pieces → List ℕ
+walked p = startOctets p ++ walkOctets (p .going)
+
 abbrev pub first : Pieces → List ℕ
-first p = startOctets p ++ walkOctets (p .going)
+first p = walked p ++ watchOctets (p .going)
 
 abbrev pub second : Pieces → List ℕ
 second p = first p ++ openOctets (nth (p .going) 0)
@@ -134,11 +148,15 @@ module _ (p : Pieces) where
   unfolding startOctets fourOf eightOf run
   length-start = refl
 
-  pub length-first : length (first p) ≡ 94
+  length-walked : length (walked p) ≡ 94
   unfolding startOctets walkOctets countsOctets fourOf eightOf run
+  length-walked = refl
+
+  pub length-first : length (first p) ≡ 135
+  unfolding startOctets walkOctets watchOctets countsOctets fourOf eightOf run
   length-first = refl
 
-  pub length-second : length (second p) ≡ 151
+  pub length-second : length (second p) ≡ 192
   length-second = omega (arith, length-append (first p) (openOctets (nth (p .going) 0)), length-first, length-open (nth (p .going) 0))
 
   pub length-state : length (stateOctets p) ≡ stateSize
@@ -155,13 +173,14 @@ module _ (p : Pieces) where
     kept-is h = rw (le-ltb (length l) stateSize h, length-state)
 
     pub state-kept : stateSize ≤ length l
-        → sets (sets (sets (sets l 0 (startOctets p)) 25 (walkOctets (p .going))) 94 (openOctets (nth (p .going) 0))) 151 (openOctets (nth (p .going) 1)) ≡ keptIn p l
+        → sets (sets (sets (sets (sets l 0 (startOctets p)) 25 (walkOctets (p .going))) 94 (watchOctets (p .going))) 135 (openOctets (nth (p .going) 0))) 192 (openOctets (nth (p .going) 1)) ≡ keptIn p l
     unfolding stateOctets
     state-kept h =
         let size : 0 + length (stateOctets p) ≡ stateSize = omega (arith, length-state) in
         rw (
           sets-join l 0 (startOctets p) (walkOctets (p .going)) {m = 25} (omega (arith, length-start)),
-          sets-join l 0 (first p) (openOctets (nth (p .going) 0)) {m = 94} (omega (arith, length-first)),
-          sets-join l 0 (second p) (openOctets (nth (p .going) 1)) {m = 151} (omega (arith, length-second)),
+          sets-join l 0 (walked p) (watchOctets (p .going)) {m = 94} (omega (arith, length-walked)),
+          sets-join l 0 (first p) (openOctets (nth (p .going) 0)) {m = 135} (omega (arith, length-first)),
+          sets-join l 0 (second p) (openOctets (nth (p .going) 1)) {m = 192} (omega (arith, length-second)),
         )
         (sets-eq (stateOctets p) l 0 (omega (arith, size)) ∙ ap (λ (n : ℕ). stateOctets p ++ drop n l) size ∙ sym (kept-is h))

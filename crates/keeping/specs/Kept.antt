@@ -1,4 +1,4 @@
--- A state's 208 octets, and a state read from them. Numbers stand high octet first; their top octet is written uncut, so that
+-- A state's octets, and a state read from them. Numbers stand high octet first; their top octet is written uncut, so that
 -- reading gives back every number. Assumes nothing.
 use mathlib.Core.Path.{_≡_}
 use Prim.Native.Nat.{ℕ, zero, suc, _+_, _*_, _/_, _%_, _<_}
@@ -14,7 +14,7 @@ use Rattle.pieces.specs.declared.Pieces.{Pieces}
 use Rattle.pieces.specs.Coded.{noOpen}
 
 abbrev pub stateSize : ℕ
-stateSize = 208
+stateSize = 249
 
 -- ---- numbers, bools and arrays
 
@@ -71,6 +71,10 @@ walkOctets w =
     flagOf (w .stopped) ∷ [] ++ eightOf (w .depth) ++ eightOf (w .place) ++ eightOf (w .have) ++ run 4 (w .some) 0 ++ eightOf (w .pass)
     ++ countsOctets (w .counts)
 
+-- limited, apns, back: 41 octets
+unfoldable pub watchOctets : Going → List ℕ
+watchOctets w = flagOf (w .limited) ∷ [] ++ eightOf (w .apns) ++ countsOctets (w .back)
+
 -- level, marks, parent, home, left: 57 octets
 unfoldable pub openOctets : Open → List ℕ
 openOctets o = o .level ∷ [] ++ run 32 (o .marks) 0 ++ eightOf (o .parent) ++ eightOf (o .home) ++ eightOf (o .left)
@@ -79,7 +83,7 @@ abbrev pub nth : Going → ℕ → Open
 nth w i = getD (w .levels) i noOpen
 
 unfoldable pub stateOctets : Pieces → List ℕ
-stateOctets p = startOctets p ++ walkOctets (p .going) ++ openOctets (nth (p .going) 0) ++ openOctets (nth (p .going) 1)
+stateOctets p = startOctets p ++ walkOctets (p .going) ++ watchOctets (p .going) ++ openOctets (nth (p .going) 0) ++ openOctets (nth (p .going) 1)
 
 -- a buffer that is too short is left alone; octets past the state's stay
 unfoldable pub keptIn : Pieces → List ℕ → List ℕ
@@ -90,19 +94,22 @@ keptIn p lent = cond (ltb (length lent) stateSize) lent (laid (stateOctets p) le
 unfoldable pub openAt : List ℕ → ℕ → Open
 openAt s n = record { level = getD s n 0; marks = run 32 s (n + 1); parent = numberAt s (n + 33); home = numberAt s (n + 41); left = numberAt s (n + 49) }
 
-unfoldable pub countsIn : List ℕ → Counts
-countsIn s = record { rows = numberAt s 62; kept = numberAt s 70; short = numberAt s 78; gap = numberAt s 86 }
+unfoldable pub countsAt : List ℕ → ℕ → Counts
+countsAt s n = record { rows = numberAt s n; kept = numberAt s (n + 8); short = numberAt s (n + 16); gap = numberAt s (n + 24) }
 
 unfoldable pub walkIn : List ℕ → Going
 walkIn s = record {
   stopped = isFlag (getD s 25 0);
   depth = numberAt s 26;
-  levels = openAt s 94 ∷ openAt s 151 ∷ [];
+  levels = openAt s 135 ∷ openAt s 192 ∷ [];
   place = numberAt s 34;
   have = numberAt s 42;
   some = run 4 s 50;
   pass = numberAt s 54;
-  counts = countsIn s;
+  counts = countsAt s 62;
+  limited = isFlag (getD s 94 0);
+  apns = numberAt s 95;
+  back = countsAt s 103;
 }
 
 unfoldable pub fieldsIn : List ℕ → Pieces

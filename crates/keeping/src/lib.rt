@@ -4,13 +4,14 @@ ghost use mathlib.Core.List.{[], _∷_};
 ghost use Prim.Native.Nat.{_+_, _≤_};
 ghost use lib.ListN.{length};
 ghost use lib.Seq.{sets};
-ghost use Rattle.keeping.specs.Kept.{stateSize, flagOf, eightOf, run, numberOf, numberAt, Read, openOctets, startOctets, countsOctets, walkOctets, openAt, countsIn, walkIn, fieldsIn, keptIn, stateIn};
+ghost use Rattle.keeping.specs.Kept.{stateSize, flagOf, eightOf, run, numberOf, numberAt, Read, openOctets, startOctets, countsOctets, walkOctets, watchOctets, openAt, countsAt, walkIn, fieldsIn, keptIn, stateIn};
 use pieces::Going;
 use pieces::Open;
 use pieces::Pieces;
 use taking::Counts;
 
-const SIZE: usize = 208;
+// How many octets a state has.
+pub const SIZE: usize = 249;
 
 // ---- a state into octets
 
@@ -102,14 +103,14 @@ fn put_start(p: Pieces, out: &mut [u8])
     put_four(head, 21, out);
 }
 
-fn put_counts(c: Counts, out: &mut [u8])
-    requires { ⌜ stateSize ≤ length (now out) ⌝ }
-    ensures { λ _. ⌜ now (out .exit) ≡ sets (now (out .entry)) 62 (countsOctets c) ⌝ }
+fn put_counts(c: Counts, at: usize, out: &mut [u8])
+    requires { ⌜ at + 32 ≤ length (now out) ⌝ }
+    ensures { λ _. ⌜ now (out .exit) ≡ sets (now (out .entry)) at (countsOctets c) ⌝ }
 {
-    put_number(c.rows, 62, out);
-    put_number(c.kept, 70, out);
-    put_number(c.short, 78, out);
-    put_number(c.gap, 86, out);
+    put_number(c.rows, at, out);
+    put_number(c.kept, at + 8, out);
+    put_number(c.short, at + 16, out);
+    put_number(c.gap, at + 24, out);
 }
 
 // Stopped, depth, place, have, some, pass, and the counts.
@@ -125,7 +126,18 @@ fn put_walk(w: Going, out: &mut [u8])
     put_number(w.have, 42, out);
     put_four(some, 50, out);
     put_number(w.pass, 54, out);
-    put_counts(counts, out);
+    put_counts(counts, 62, out);
+}
+
+// Limited, the APNs so far, and the counts to go back to.
+fn put_watch(w: Going, out: &mut [u8])
+    requires { ⌜ stateSize ≤ length (now out) ⌝ }
+    ensures { λ _. ⌜ now (out .exit) ≡ sets (now (out .entry)) 94 (watchOctets w) ⌝ }
+{
+    let back = w.back;
+    put_one(flag(w.limited), 94, out);
+    put_number(w.apns, 95, out);
+    put_counts(back, 103, out);
 }
 
 // A buffer that is too short is left alone.
@@ -140,8 +152,9 @@ pub fn keep(p: Pieces, state: &mut [u8])
     let inner = w.levels[1];
     put_start(p, state);
     put_walk(w, state);
-    put_open(outer, 94, state);
-    put_open(inner, 151, state);
+    put_watch(w, state);
+    put_open(outer, 135, state);
+    put_open(inner, 192, state);
 }
 
 // ---- octets into a state
@@ -206,15 +219,15 @@ fn open_at(s: &[u8], at: usize) -> Open
     }
 }
 
-fn counts_in(s: &[u8]) -> Counts
-    requires { ⌜ stateSize ≤ length (now s) ⌝ }
-    ensures { λ r. ⌜ r ≡ countsIn (now (s .entry)) ⌝ }
+fn counts_at(s: &[u8], at: usize) -> Counts
+    requires { ⌜ at + 32 ≤ length (now s) ⌝ }
+    ensures { λ r. ⌜ r ≡ countsAt (now (s .entry)) at ⌝ }
 {
     Counts {
-        rows: number_at(s, 62),
-        kept: number_at(s, 70),
-        short: number_at(s, 78),
-        gap: number_at(s, 86),
+        rows: number_at(s, at),
+        kept: number_at(s, at + 8),
+        short: number_at(s, at + 16),
+        gap: number_at(s, at + 24),
     }
 }
 
@@ -222,11 +235,12 @@ fn walk_in(s: &[u8]) -> Going
     requires { ⌜ stateSize ≤ length (now s) ⌝ }
     ensures { λ r. ⌜ r ≡ walkIn (now (s .entry)) ⌝ }
 {
-    let outer = open_at(s, 94);
-    let inner = open_at(s, 151);
+    let outer = open_at(s, 135);
+    let inner = open_at(s, 192);
     let levels = [outer, inner];
     let some = four_at(s, 50);
-    let counts = counts_in(s);
+    let counts = counts_at(s, 62);
+    let back = counts_at(s, 103);
     Going {
         stopped: s[25] != 0,
         depth: number_at(s, 26),
@@ -236,6 +250,9 @@ fn walk_in(s: &[u8]) -> Going
         some,
         pass: number_at(s, 54),
         counts,
+        limited: s[94] != 0,
+        apns: number_at(s, 95),
+        back,
     }
 }
 

@@ -1,19 +1,20 @@
 -- Each part of a line's number says what the line does: the parts are bits that do not overlap. Assumes nothing.
---     must-in, many-in, on-in, skip-in, inside-in   the parts          lists-in   whether the line lists a pair
+--     must-in, many-in, on-in, skip-in, inside-in, limited-in   the parts          lists-in   whether the line lists a pair
 use mathlib.Core.Path.{_≡_, refl, sym, ap, _∙_}
-use mathlib.Core.Bool.{Bool, true, false, cond, _&&_, _||_}
+use mathlib.Core.Bool.{Bool, true, false, cond, not, _&&_, _||_}
 use Prim.Native.Nat.{ℕ, _+_, _*_, _/_, _%_, _≤_, _<_}
 use native.Mathlib.Omega.{arith}
 use borrow.Author.Tests.{eqb-true, eq-eqb, ne-eqb, eqb-false}
 use lib.Dec.{eqb}
 use Rattle.rules.specs.Types.{among}
 use Rattle.rules.specs.Listings.{Line, anyInstance, book, lists}
+use Rattle.rules.specs.Sound.{isFree}
 use Rattle.rules.proofs.Lines.{SoundLine}
-use Rattle.listings.specs.Data.{keyOf, bit, entryOf, keyIn, mustIn, manyIn, onIn, skipIn, insideIn, listsIn}
+use Rattle.listings.specs.Data.{keyOf, bit, entryOf, keyIn, mustIn, manyIn, onIn, skipIn, insideIn, limitedIn, listsIn}
 
 -- ---- the parts of a number
 
-record Parts (x key m r a b c s v : ℕ) : Type 0 where
+record Parts (x key m r a b c s v z : ℕ) : Type 0 where
   key-is : x % 8192 ≡ key
   must-is : x / 8192 % 2 ≡ m
   many-is : x / 16384 % 2 ≡ r
@@ -21,11 +22,12 @@ record Parts (x key m r a b c s v : ℕ) : Type 0 where
   two-is : x / 65536 % 2 ≡ b
   three-is : x / 131072 % 2 ≡ c
   skip-is : x / 524288 % 32 ≡ s
-  inside-is : x / 16777216 ≡ v
+  inside-is : x / 16777216 % 128 ≡ v
+  limited-is : x / 2147483648 % 2 ≡ z
 
-parts : (key m r a b c s v : ℕ) → key < 8192 → m < 2 → r < 2 → a < 2 → b < 2 → c < 2 → s < 32
-    → Parts (key + 8192 * m + 16384 * r + 32768 * a + 65536 * b + 131072 * c + 524288 * s + 16777216 * v) key m r a b c s v
-parts key m r a b c s v h₁ h₂ h₃ h₄ h₅ h₆ h₇ = record {
+parts : (key m r a b c s v z : ℕ) → key < 8192 → m < 2 → r < 2 → a < 2 → b < 2 → c < 2 → s < 32 → v < 128 → z < 2
+    → Parts (key + 8192 * m + 16384 * r + 32768 * a + 65536 * b + 131072 * c + 524288 * s + 16777216 * v + 2147483648 * z) key m r a b c s v z
+parts key m r a b c s v z h₁ h₂ h₃ h₄ h₅ h₆ h₇ h₈ h₉ = record {
   key-is = omega arith;
   must-is = omega arith;
   many-is = omega arith;
@@ -34,6 +36,7 @@ parts key m r a b c s v h₁ h₂ h₃ h₄ h₅ h₆ h₇ = record {
   three-is = omega arith;
   skip-is = omega arith;
   inside-is = omega arith;
+  limited-is = omega arith;
 }
 
 bit-low : (b : Bool) → bit b < 2
@@ -57,15 +60,15 @@ key-lists t i t′ i′ h h′ = go (eqb t′ t) (eqb i′ i) (eqb i′ anyInsta
 
 -- ---- the number of a line
 
-module _ {levels : ℕ} (l : Line) (skip : ℕ) (fine : SoundLine levels l) (few : skip < 32) where
-  said : Parts (entryOf l skip) (keyOf (l .typ) (l .inst)) (bit (l .must)) (bit (l .many)) (bit (among 1 (l .kinds))) (bit (among 2 (l .kinds))) (bit (among 3 (l .kinds))) skip (l .inside)
+module _ {levels : ℕ} (l : Line) (skip : ℕ) (fine : SoundLine levels l) (few : skip < 32) (deep : levels ≤ 128) where
+  said : Parts (entryOf l skip) (keyOf (l .typ) (l .inst)) (bit (l .must)) (bit (l .many)) (bit (among 1 (l .kinds))) (bit (among 2 (l .kinds))) (bit (among 3 (l .kinds))) skip (l .inside) (bit (not (isFree l)))
   unfolding entryOf
   said =
       let a = among 1 (l .kinds) in
       let b = among 2 (l .kinds) in
       let c = among 3 (l .kinds) in
-      parts (keyOf (l .typ) (l .inst)) (bit (l .must)) (bit (l .many)) (bit a) (bit b) (bit c) skip (l .inside)
-      (omega (arith, fine .typ, fine .inst)) (bit-low (l .must)) (bit-low (l .many)) (bit-low a) (bit-low b) (bit-low c) few
+      parts (keyOf (l .typ) (l .inst)) (bit (l .must)) (bit (l .many)) (bit a) (bit b) (bit c) skip (l .inside) (bit (not (isFree l)))
+      (omega (arith, fine .typ, fine .inst)) (bit-low (l .must)) (bit-low (l .many)) (bit-low a) (bit-low b) (bit-low c) few (omega (arith, fine .inside)) (bit-low (not (isFree l)))
 
   pub must-in : mustIn (entryOf l skip) ≡ l .must
   must-in = rw (said .must-is) (bit-is (l .must))
@@ -78,6 +81,9 @@ module _ {levels : ℕ} (l : Line) (skip : ℕ) (fine : SoundLine levels l) (few
 
   pub inside-in : insideIn (entryOf l skip) ≡ l .inside
   inside-in = said .inside-is
+
+  pub limited-in : limitedIn (entryOf l skip) ≡ not (isFree l)
+  limited-in = rw (said .limited-is) (bit-is (not (isFree l)))
 
   pub key-in : keyIn (entryOf l skip) ≡ keyOf (l .typ) (l .inst)
   key-in = said .key-is

@@ -1,19 +1,20 @@
 -- The listings as one table of numbers: where each level begins in it, and after the last its end; then a number for each line, level after
 -- level. Assumes nothing.
-use mathlib.Core.Bool.{Bool, true, false, cond, _&&_, _||_}
+use mathlib.Core.Bool.{Bool, true, false, cond, not, _&&_, _||_}
 use mathlib.Core.List.{List, [], _∷_, _++_}
 use Prim.Native.Nat.{ℕ, zero, suc, _+_, _*_, _/_, _%_}
 use lib.Dec.{eqb}
 use lib.ListN.{length}
 use Rattle.rules.specs.Types.{among}
 use Rattle.rules.specs.Listings.{Line, Book}
+use Rattle.rules.specs.Sound.{isFree}
 
 -- ---- a line as one number
 --
 --     13 bits   the pair: its type, and its instance in five bits, which hold that of every instance too
 --      1 bit    mandatory          1 bit    may repeat          1 bit each    listed on kind 1, 2, 3, and one to spare
 --      5 bits   how many lines stand between it and the next mandatory line
---      then     the level of its inside
+--      7 bits   the level of its inside          1 bit    what that holds has limits
 
 abbrev pub keyOf : ℕ → ℕ → ℕ
 keyOf t i = t * 32 + i
@@ -36,6 +37,7 @@ entryOf l skip =
     + 131072 * bit (among 3 (l .kinds))
     + 524288 * skip
     + 16777216 * l .inside
+    + 2147483648 * bit (not (isFree l))
 
 -- the numbers of a level's lines
 unfoldable pub entriesOf : List Line → List ℕ
@@ -61,7 +63,10 @@ abbrev pub skipIn : ℕ → ℕ
 skipIn x = x / 524288 % 32
 
 abbrev pub insideIn : ℕ → ℕ
-insideIn x = x / 16777216
+insideIn x = x / 16777216 % 128
+
+abbrev pub limitedIn : ℕ → Bool
+limitedIn x = eqb (x / 2147483648 % 2) 1
 
 -- it lists, on kind k, the pair of the key `own` or every instance by the key `any`
 unfoldable pub listsIn : ℕ → ℕ → ℕ → ℕ → Bool

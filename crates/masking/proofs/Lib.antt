@@ -1,4 +1,5 @@
 pub mod Clearing
+pub mod Insides
 pub mod Laying
 pub mod Masks
 pub mod Opening

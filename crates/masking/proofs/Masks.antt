@@ -22,6 +22,9 @@ use Rattle.rules.specs.declared.Reading.{Reading}
 use Rattle.rules.proofs.Checks.{first-append, both-pass, check-off, AllPass, all-pass}
 use Rattle.rules.proofs.Header.{Passed, framed}
 use Rattle.rules.proofs.Readings.{few, refusal-is, count-is, all-laid}
+use Rattle.rules.proofs.Book.{book-sound}
+use Rattle.rules.proofs.Frames.{span}
+use Rattle.rules.proofs.Hidden.{Shown, shown-holds, rows-shown}
 use Rattle.rules.proofs.Rows.{Octets, octets-drop, Every, every-map, Fits, all-fit, body-met}
 use Rattle.masking.specs.Clearing.{clearedRows}
 use Rattle.masking.specs.Settled.{Settles, Settled}
@@ -61,22 +64,26 @@ module _ (k : ℕ) (m : List ℕ) {rows rows′ : List ℕ} {r : Reading} (read 
           let e : headerLength m + length (drop (headerLength m) m) ≡ length m = omega (arith, length-drop (headerLength m) m, all .0 .has-header) in
           rw e at (all-fit (body-met book k m is (all .1 .1)) (octets-drop (headerLength m) m octets) (omega arith))
 
-      cleared-is : (copy : List ℕ) → clearedRows rows′ (r .rows) (laid m copy) ≡ laid (clearAll m is) copy
+      show : Every (Shown m) is
+      show = rows-shown book book-sound k m is (all .1 .1) (all .0 .has-header)
+
+      cleared-is : (copy : List ℕ) → clearedRows rows′ m (r .rows) (laid m copy) ≡ laid (clearAll m is) copy
       cleared-is copy =
           let ends = every-map (Fits (0 + length is) (length m)) (λ i. valueEnd i ≤ length m) is (λ i x. x .ends) fit in
-          ap (λ (n : ℕ). clearedRows rows′ n (laid m copy)) rows-is ∙ clear-is is rows rows′ scratch-is (laid m copy) ∙ clear-laid m copy is ends
+          let holds = every-map (Shown m) (λ i. span (i .hidden) ≤ i .len) is (λ i x. shown-holds x) show in
+          ap (λ (n : ℕ). clearedRows rows′ m n (laid m copy)) rows-is ∙ clear-is m is rows rows′ scratch-is show (laid m copy) ∙ clear-laid m copy is ends holds
 
     pub settles : Settles r rows′ m
     settles c room l =
         let p : refuses framing ≡ false = rw (← refusal-by, c) in
-        rw (rows-is p) (within-is (is p) rows rows′ (scratch-is p) (0 + length (is p)) (length m) room (fit p) l)
+        rw (rows-is p) (within-is m (is p) rows rows′ (scratch-is p) (show p) (0 + length (is p)) room (all p .0 .most) (fit p) l)
 
     module _ (copy : List ℕ) where
       verdict-is : first (r .refusal ∷ check (ltb (length copy) (length m)) (refused 13 0) ∷ []) ≡ maskVerdict book k m (length copy)
       unfolding maskChecks first
       verdict-is = rw refusal-by (sym (first-append (framingChecks book k m) (copyCheck book k m (length copy) ∷ [])))
 
-      left-is : refuses (maskVerdict book k m (length copy)) ≡ false → clearedRows rows′ (r .rows) (laid m copy) ≡ laid (maskedCopy book k m) copy
+      left-is : refuses (maskVerdict book k m (length copy)) ≡ false → clearedRows rows′ m (r .rows) (laid m copy) ≡ laid (maskedCopy book k m) copy
       unfolding maskChecks maskedCopy
       left-is e =
           let p = both-pass (framingChecks book k m) (copyCheck book k m (length copy) ∷ []) e .0 in
@@ -86,6 +93,6 @@ module _ (k : ℕ) (m : List ℕ) {rows rows′ : List ℕ} {r : Reading} (read 
       unfolding maskCopy
       masked {v} s = record { answers = s .answers ∙ verdict-is; copy-left = s .copy-left ∙ go (refuses v) refl }
         where
-          go : (c : Bool) → refuses v ≡ c → cond c copy (clearedRows rows′ (r .rows) (laid m copy)) ≡ maskCopy book k m copy
+          go : (c : Bool) → refuses v ≡ c → cond c copy (clearedRows rows′ m (r .rows) (laid m copy)) ≡ maskCopy book k m copy
           go true e = let f : refuses (maskVerdict book k m (length copy)) ≡ true = rw (← verdict-is, ← s .answers) e in rw f
           go false e = let f : refuses (maskVerdict book k m (length copy)) ≡ false = rw (← verdict-is, ← s .answers) e in rw f (left-is f)

@@ -7,10 +7,12 @@ use Prim.Native.Nat.{ℕ, zero, suc, _+_, _*_, _≤_, _<_}
 use native.Mathlib.Omega.{arith}
 use lib.ListN.{length, take, getD, length-append, List·getD-append}
 use lib.Seq.{getD-append-add, take-suc, take-length}
-use Rattle.rules.specs.Sizes.{rowNumbers}
+use Rattle.rules.specs.Sizes.{largestMessage, rowNumbers}
 use Rattle.rules.specs.Standing.{Item}
 use Rattle.rules.specs.Table.{row, rowsOf, laid, noItem, nth}
 use Rattle.rules.specs.Covered.{cleared, clearAll}
+use Rattle.rules.proofs.Frames.{all-filled}
+use Rattle.rules.proofs.Hidden.{Shown}
 use Rattle.rules.proofs.Rows.{rows-length, in-rows, Every, every-at, Fits}
 use Rattle.masking.specs.Clearing.{number, clearedRow, clearedRows, Within}
 
@@ -26,28 +28,34 @@ module _ (is : List Item) (scratch rows : List ℕ) (e : rows ≡ laid (rowsOf i
       let n = rows-length is in
       rw e (List·getD-append (rowsOf is) _ 0 (rowNumbers * i + c) (omega arith) ∙ in-rows is i c l h)
 
-  row-cleared : (i : ℕ) (copy : List ℕ) → i < length is → clearedRow rows i copy ≡ cleared copy (nth is i)
+module _ (m : List ℕ) (is : List Item) (scratch rows : List ℕ) (e : rows ≡ laid (rowsOf is) scratch) (show : Every (Shown m) is) where
+  row-cleared : (i : ℕ) (copy : List ℕ) → i < length is → clearedRow rows m i copy ≡ cleared copy (nth is i)
   unfolding clearedRow
   row-cleared i copy l =
-      rw (number-is i 1 l (omega arith), number-is i 3 l (omega arith), number-is i 4 l (omega arith), number-is i 5 l (omega arith))
+      let at = number-is is scratch rows e i in
+      rw (at 1 l (omega arith), at 3 l (omega arith), at 4 l (omega arith), at 5 l (omega arith), every-at (Shown m) is show i l .hidden)
 
-  cleared-take : (copy : List ℕ) (n : ℕ) → n ≤ length is → clearedRows rows n copy ≡ clearAll copy (take n is)
+  cleared-take : (copy : List ℕ) (n : ℕ) → n ≤ length is → clearedRows rows m n copy ≡ clearAll copy (take n is)
   unfolding clearedRows clearAll
   cleared-take copy zero l = refl
   cleared-take copy (suc n) l =
       rw (take-suc is n noItem (omega arith), clear-snoc copy (take n is) (nth is n), cleared-take copy n (omega arith))
       (row-cleared n (clearAll copy (take n is)) (omega arith))
 
-  pub clear-is : (copy : List ℕ) → clearedRows rows (length is) copy ≡ clearAll copy is
+  pub clear-is : (copy : List ℕ) → clearedRows rows m (length is) copy ≡ clearAll copy is
   clear-is copy = cleared-take copy (length is) (omega arith) ∙ rw take-length
 
-  -- rows of a run that ends within the copy
-  pub within-is : (n top room : ℕ) → Every (Fits n top) is → top ≤ room → Within rows (length is) room
+  -- rows of a message that fits in the copy
+  pub within-is : (n room : ℕ) → length m ≤ largestMessage → Every (Fits n (length m)) is → length m ≤ room → Within rows m (length is) room
   unfolding laid
-  within-is n top room f w i l =
-      let x = every-at (Fits n top) is f i l in
+  within-is n room few f w i l =
+      let x = every-at (Fits n (length m)) is f i l in
+      let at = number-is is scratch rows e i in
       record {
         long = omega (arith, rows-length is, simp length-append at (ap length e));
-        typ = rw (number-is i 1 l (omega arith)) (x .typ);
-        ends = rw (number-is i 3 l (omega arith), number-is i 4 l (omega arith)) (omega (arith, x .ends));
+        typ = rw (at 1 l (omega arith)) (x .typ);
+        ends = rw (at 3 l (omega arith), at 4 l (omega arith)) (omega (arith, x .ends));
+        sent = rw (at 3 l (omega arith), at 4 l (omega arith)) (x .ends);
+        few = few;
+        fills = rw (at 3 l (omega arith), at 4 l (omega arith), at 5 l (omega arith)) (λ z. all-filled (every-at (Shown m) is show i l .fills z));
       }

@@ -23,6 +23,6 @@ module _ (r : Reading) (rows m copy : List ℕ) where
     unfolding first check
     by-length l e = record { answers = e ∙ rw (z, lt-ltb (length copy) (length m) l); copy-left = rw e }
 
-    pub by-rows : {v : Verdict} {copy′ : List ℕ} → length m ≤ length copy → v ≡ accepted → copy′ ≡ clearedRows rows (r .rows) (laid m copy) → Settled r rows m copy v copy′
+    pub by-rows : {v : Verdict} {copy′ : List ℕ} → length m ≤ length copy → v ≡ accepted → copy′ ≡ clearedRows rows m (r .rows) (laid m copy) → Settled r rows m copy v copy′
     unfolding first check
     by-rows l e c = record { answers = e ∙ rw (z, le-ltb (length copy) (length m) l); copy-left = rw e c }

@@ -13,9 +13,9 @@ use Rattle.masking.specs.Clearing.{clearedRows, Within}
 
 -- the rows of a message that is not refused are there, and lie in any copy that is long enough
 abbrev pub Settles : Reading → List ℕ → List ℕ → Type 0
-Settles r rows m = r .refusal .code ≡ 0 → (room : ℕ) → length m ≤ room → Within rows (r .rows) room
+Settles r rows m = r .refusal .code ≡ 0 → (room : ℕ) → length m ≤ room → Within rows m (r .rows) room
 
 -- its refusal, or 13, or the message laid over the copy and its rows cleared
 pub record Settled (r : Reading) (rows m copy : List ℕ) (answer : Verdict) (copy′ : List ℕ) : Type 0 where
   pub answers : answer ≡ first (r .refusal ∷ check (ltb (length copy) (length m)) (refused 13 0) ∷ [])
-  pub copy-left : copy′ ≡ cond (refuses answer) copy (clearedRows rows (r .rows) (laid m copy))
+  pub copy-left : copy′ ≡ cond (refuses answer) copy (clearedRows rows m (r .rows) (laid m copy))

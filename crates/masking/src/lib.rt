@@ -2,10 +2,11 @@
 ghost use mathlib.Core.Path.{_≡_};
 ghost use Prim.Native.Nat.{_+_, _-_, _≤_};
 ghost use lib.ListN.{length, replicate};
-ghost use Rattle.rules.specs.Covered.{zeroed};
+ghost use Rattle.rules.specs.Frames.{framesOf};
+ghost use Rattle.rules.specs.Covered.{zeroed, insideCleared};
 ghost use Rattle.rules.specs.Answers.{Masked};
 ghost use Rattle.facts.specs.Facts.{facts};
-ghost use Rattle.masking.specs.Clearing.{clearedRow, clearedRows, RowWithin, Within};
+ghost use Rattle.masking.specs.Clearing.{between, clearedRow, clearedRows, Inside, RowWithin, Within};
 ghost use Rattle.masking.specs.Settled.{Settles, Settled};
 use rules::Reading;
 use rules::Verdict;
@@ -31,26 +32,51 @@ pub(crate) fn clear_value(copy: &mut [u8], place: usize, len: usize, shown: usiz
     clear(&mut copy[start..end]);
 }
 
-// What is covered of the value of row `n`.
-pub(crate) fn clear_row(types: &[u8; 64], rows: &[u16], n: usize, copy: &mut [u8])
-    requires { ⌜ (now types ≡ facts) × RowWithin (now rows) n (length (now copy)) ⌝ }
-    ensures { λ _. ⌜ now (copy .exit) ≡ clearedRow (now (rows .entry)) n (now (copy .entry)) ⌝ }
+// The values of the elements that fill the message from `place` up to `end`. Their headers are read where nothing is cleared.
+pub(crate) fn clear_inside(message: &[u8], place: usize, end: usize, copy: &mut [u8])
+    requires { ⌜ Inside (now message) place end (length (now copy)) ⌝ }
+    ensures { λ _. ⌜ now (copy .exit) ≡ insideCleared (now (copy .entry)) place (framesOf (between (now (message .entry)) place end)) ⌝ }
+{
+    let mut at = place;
+    while at < end {
+        let value = at + 4;
+        let len = scratch::two(message, at + 1);
+        clear_value(copy, value, len, 0);
+        at = value + len;
+    }
+}
+
+// What is covered of the value of row `n`, and of a void one the values inside it.
+pub(crate) fn clear_row(types: &[u8; 64], rows: &[u16], n: usize, message: &[u8], copy: &mut [u8])
+    requires { ⌜ (now types ≡ facts) × RowWithin (now rows) (now message) n (length (now copy)) ⌝ }
+    ensures { λ _. ⌜ now (copy .exit) ≡ clearedRow (now (rows .entry)) (now (message .entry)) n (now (copy .entry)) ⌝ }
 {
     let at = 6 * n;
     let place = rows[at + 3] as usize;
     let len = rows[at + 4] as usize;
-    let shown = facts::open_octets(types, rows[at + 1] as u8, rows[at + 5], len);
+    let stand = rows[at + 5];
+    let shown = facts::open_octets(types, rows[at + 1] as u8, stand, len);
     clear_value(copy, place, len, shown);
+    if stand != 4 {
+        return;
+    }
+    clear_inside(message, place, place + len, copy);
 }
 
 // What is covered of the values of the first `count` rows.
-pub(crate) fn clear_rows(types: &[u8; 64], rows: &[u16], count: usize, copy: &mut [u8])
-    requires { ⌜ (now types ≡ facts) × Within (now rows) count (length (now copy)) ⌝ }
-    ensures { λ _. ⌜ now (copy .exit) ≡ clearedRows (now (rows .entry)) count (now (copy .entry)) ⌝ }
+pub(crate) fn clear_rows(
+    types: &[u8; 64],
+    rows: &[u16],
+    count: usize,
+    message: &[u8],
+    copy: &mut [u8],
+)
+    requires { ⌜ (now types ≡ facts) × Within (now rows) (now message) count (length (now copy)) ⌝ }
+    ensures { λ _. ⌜ now (copy .exit) ≡ clearedRows (now (rows .entry)) (now (message .entry)) count (now (copy .entry)) ⌝ }
 {
     let mut row = 0;
     while row < count {
-        clear_row(types, rows, row, copy);
+        clear_row(types, rows, row, message, copy);
         row += 1;
     }
 }
@@ -69,7 +95,7 @@ pub(crate) fn settle(r: Reading, rows: &[u16], message: &[u8], copy: &mut [u8]) 
     }
     copying::copy_octets(message, copy);
     let types = facts::table();
-    clear_rows(&types, rows, r.rows, copy);
+    clear_rows(&types, rows, r.rows, message, copy);
     answers::accept()
 }
 

@@ -1,7 +1,7 @@
 -- How long a text is at most when its slots are filled, whatever the numbers and the table of names are: computed from the texts and slots alone.
 -- Assumes nothing.
 --     said-length   of a section, by one computed test
---     verdict-length, page-length, row-length, ending-length, mark-length, cover-length, header-length   of those that others say
+--     verdict-length, page-length, row-length, ending-length, mark-length, cover-length, void-length, header-length   of those that others say
 use mathlib.Core.Path.{_≡_, refl}
 use mathlib.Core.Bool.{Bool, true, false, cond, _&&_, _||_}
 use mathlib.Core.List.{List, [], _∷_}
@@ -16,7 +16,7 @@ use Rattle.wording.specs.Pieces.{leftIn, rightIn}
 use Rattle.wording.proofs.Decimals.{decimal-length}
 use Rattle.wording.proofs.Turns.{left-length, right-length, sumOf, each-length}
 use Rattle.phrases.specs.Texts.{octetsOf, Text, slotOctet, every, keyFor, keyOf, textIn}
-use Rattle.phrases.specs.Table.{slots, texts, textFor, itself, unlessZero, element, verdicts, pages, rows, endings, marks, covers, headers}
+use Rattle.phrases.specs.Table.{slots, texts, textFor, itself, unlessZero, element, verdicts, pages, rows, endings, marks, covers, headers, voids}
 use Rattle.phrases.specs.Names.{entryOf, beforeBlanks, trimmed, elementName}
 use Rattle.phrases.specs.Sentences.{someDecimal, slotNumber, worded, slotText, pieceText, filled, said}
 
@@ -164,6 +164,10 @@ module _ (names : List ℕ) where
     pub cover-length : (n : ℕ) → length (said names run covers n) ≤ 8
     unfolding most sumOf pieceMost wordMost slots texts octetsOf
     cover-length n = said-length covers n 8 refl
+
+    pub void-length : (n : ℕ) → length (said names run voids n) ≤ 29
+    unfolding most sumOf pieceMost wordMost slots texts octetsOf
+    void-length n = said-length voids n 29 refl
 
     pub header-length : (n : ℕ) → length (said names run headers n) ≤ 13
     unfolding most sumOf pieceMost wordMost slots texts octetsOf

@@ -70,6 +70,10 @@ claims = 14
 abbrev pub sizes : ℕ
 sizes = 15
 
+-- why a group is set aside whole, by its standing; no other row has one
+abbrev pub voids : ℕ
+voids = 16
+
 -- ---- slots
 
 -- what is said of a number: itself, itself unless it is 0, the name of its element, its text in a section
@@ -253,7 +257,8 @@ texts =
     ∷ named standings 0 "kept"
     ∷ named standings 1 "not listed"
     ∷ named standings 2 "repeat"
-    ∷ named standings every "short"
+    ∷ named standings 3 "short"
+    ∷ named standings 4 "void"
     ∷ named reasons 0 "an element claims more octets than its level has left"
     ∷ named reasons every "fewer than four octets are left of its level, too few for an element"
     ∷ named causes 67 "; cause 67 Invalid length"
@@ -287,6 +292,7 @@ texts =
     ∷ named marks 12 " <- lacks it"
     ∷ named covers 0 "covered"
     ∷ named covers every " covered"
+    ∷ named voids 4 "set aside: more than ten APNs"
     ∷ named headers 0 "TEID 0x"
     ∷ named headers 1 ", sequence 0x"
     ∷ named headers every "sequence 0x"

@@ -4,7 +4,7 @@ ghost use mathlib.Core.Path.{_≡_};
 ghost use Rattle.phrases.specs.Texts.{joined, keysOf, lengthsOf};
 ghost use Rattle.phrases.specs.Table.{texts, slots};
 
-const OCTETS: [u8; 4395] = *b"\
+const OCTETS: [u8; 4428] = *b"\
     S11\
     S4\
     S5/S8\
@@ -13,6 +13,7 @@ const OCTETS: [u8; 4395] = *b"\
     not listed\
     repeat\
     short\
+    void\
     an element claims more octets than its level has left\
     fewer than four octets are left of its level, too few for an element\
     ; cause 67 Invalid length\
@@ -46,6 +47,7 @@ const OCTETS: [u8; 4395] = *b"\
     \x20<- lacks it\
     covered\
     \x20covered\
+    set aside: more than ten APNs\
     TEID 0x\
     , sequence 0x\
     sequence 0x\
@@ -177,7 +179,7 @@ const OCTETS: [u8; 4395] = *b"\
     For future use\
     ";
 
-const KEYS: [u16; 170] = [
+const KEYS: [u16; 172] = [
     1,
     2,
     3,
@@ -185,7 +187,8 @@ const KEYS: [u16; 170] = [
     512,
     513,
     514,
-    767,
+    515,
+    516,
     768,
     1023,
     1091,
@@ -219,6 +222,7 @@ const KEYS: [u16; 170] = [
     2828,
     3072,
     3327,
+    4100,
     3328,
     3329,
     3583,
@@ -350,7 +354,7 @@ const KEYS: [u16; 170] = [
     511,
 ];
 
-const LENGTHS: [u16; 170] = [
+const LENGTHS: [u16; 172] = [
     3,
     2,
     5,
@@ -359,6 +363,7 @@ const LENGTHS: [u16; 170] = [
     10,
     6,
     5,
+    4,
     53,
     68,
     25,
@@ -392,6 +397,7 @@ const LENGTHS: [u16; 170] = [
     12,
     7,
     8,
+    29,
     7,
     13,
     11,
@@ -662,19 +668,19 @@ const SLOTS: [u8; 136] = [
     2,
 ];
 
-pub(crate) fn octets() -> [u8; 4395]
+pub(crate) fn octets() -> [u8; 4428]
     ensures { λ r. ⌜ r ≡ joined texts ⌝ }
 {
     OCTETS
 }
 
-pub(crate) fn keys() -> [u16; 170]
+pub(crate) fn keys() -> [u16; 172]
     ensures { λ r. ⌜ r ≡ keysOf texts ⌝ }
 {
     KEYS
 }
 
-pub(crate) fn lengths() -> [u16; 170]
+pub(crate) fn lengths() -> [u16; 172]
     ensures { λ r. ⌜ r ≡ lengthsOf texts ⌝ }
 {
     LENGTHS

@@ -4,15 +4,16 @@
 use mathlib.Core.Path.{_≡_, refl, sym, ap, _∙_}
 use mathlib.Core.Bool.{Bool, true, false, cond}
 use mathlib.Core.List.{List, [], _∷_}
-use Prim.Native.Nat.{ℕ, zero, suc, _+_, _*_, _≤_}
+use Prim.Native.Nat.{ℕ, zero, suc, _+_, _-_, _*_, _≤_}
 use native.Mathlib.Omega.{arith}
-use lib.Dec.{eqb, leb}
+use lib.Dec.{eqb, ltb, leb}
 use lib.ListN.{length, getD, set, length-set}
 use Rattle.rules.specs.Sizes.{rowNumbers}
-use Rattle.rules.specs.Standing.{Item, kept, valuePlace}
+use Rattle.rules.specs.Standing.{Item, kept, void, valuePlace}
 use Rattle.rules.specs.Table.{row}
 use Rattle.taking.specs.Held.{shortOf, counted, count, putNumbers, putRow}
 use Rattle.taking.specs.declared.Counts.{Counts}
+use Rattle.pieces.specs.Drafts.{blanks, standVoid, voided, backTo}
 use Rattle.pieces.specs.Coded.{aloneBy, joinedBy, rowPut, rowIf}
 
 pub counts-joined : (c : Counts) (i : Item) → joinedBy c (count (aloneBy c) i) ≡ count c i
@@ -52,11 +53,36 @@ unfolding putRow
 row-put rows n i = refl
 
 -- as many numbers as before
-pub row-length : (wrote : Bool) (rows : List ℕ) (n : ℕ) (xs : List ℕ) → length (rowIf wrote rows n xs) ≡ length rows
+pub put-length : (rows : List ℕ) (n a b c d e f : ℕ) → length (putNumbers rows n a b c d e f) ≡ length rows
 unfolding putNumbers
-row-length false rows n xs = refl
-row-length true rows n xs = go (leb (rowNumbers * n + rowNumbers) (length rows))
+put-length rows n a b c d e f = go (leb (rowNumbers * n + rowNumbers) (length rows))
   where
-    go : (c : Bool) → length (cond c (set (set (set (set (set (set rows (rowNumbers * n) (getD xs 0 0)) (rowNumbers * n + 1) (getD xs 1 0)) (rowNumbers * n + 2) (getD xs 2 0)) (rowNumbers * n + 3) (getD xs 3 0)) (rowNumbers * n + 4) (getD xs 4 0)) (rowNumbers * n + 5) (getD xs 5 0)) rows) ≡ length rows
+    go : (t : Bool) → length (cond t
+        (set (set (set (set (set (set rows (rowNumbers * n) a) (rowNumbers * n + 1) b) (rowNumbers * n + 2) c) (rowNumbers * n + 3) d) (rowNumbers * n + 4) e) (rowNumbers * n + 5) f) rows) ≡ length rows
     go true = simp length-set
     go false = refl
+
+blanks-length : (rows : List ℕ) (m n : ℕ) → length (blanks rows m n) ≡ length rows
+unfolding blanks
+blanks-length rows m zero = refl
+blanks-length rows m (suc n) = blanks-length (putNumbers rows (m + n) 0 0 0 0 0 0) m n ∙ put-length rows (m + n) 0 0 0 0 0 0
+
+stand-length : (rows : List ℕ) (m : ℕ) → length (standVoid rows m) ≡ length rows
+unfolding standVoid
+stand-length rows m = go (eqb m 0)
+  where
+    go : (c : Bool) → length (cond c rows (set rows (rowNumbers * m - 1) void)) ≡ length rows
+    go true = refl
+    go false = length-set rows (rowNumbers * m - 1) void
+
+pub back-length : (m n : ℕ) (rows : List ℕ) → length (backTo m n rows) ≡ length rows
+unfolding backTo voided
+back-length m n rows = go (ltb m n)
+  where
+    go : (c : Bool) → length (cond c (standVoid (blanks rows m (n - m)) m) rows) ≡ length rows
+    go true = stand-length (blanks rows m (n - m)) m ∙ blanks-length rows m (n - m)
+    go false = refl
+
+pub row-length : (wrote : Bool) (rows : List ℕ) (n : ℕ) (xs : List ℕ) (m : ℕ) → length (rowIf wrote rows n xs m) ≡ length rows
+row-length false rows n xs m = refl
+row-length true rows n xs m = back-length m (n + 1) (rowPut rows n xs) ∙ put-length rows n _ _ _ _ _ _

@@ -70,6 +70,8 @@ idle-fits k c f = record {
     each = (none, (none, tt));
     ends = omega arith;
     few = f;
+    owns = omega arith;
+    spare = omega arith;
     kind = λ l. absurd (omega arith);
   };
   wait = λ a b e. absurd (omega arith);
@@ -88,6 +90,8 @@ entry-sized k h x = record {
   each = (record { level = level-low h (x .listed); parent = omega arith; home = omega arith }, (none, tt));
   ends = omega (arith, x .most, x .has-header);
   few = few-none (headerLength h);
+  owns = omega arith;
+  spare = omega arith;
   kind = λ l. x .kind;
 }
 

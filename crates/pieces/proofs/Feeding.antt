@@ -17,10 +17,9 @@ use Rattle.rules.specs.Listings.{Book, Message, book, messageOf}
 use Rattle.rules.specs.Taking.{bodyLevel}
 use Rattle.rules.specs.Verdicts.{openingChecks, headerChecks}
 use Rattle.rules.proofs.Rows.{header-least}
-use Rattle.taking.specs.Held.{Held, held, one, noCounts}
-use Rattle.reading.specs.Scan.{shut, number, heldOf}
 use Rattle.pieces.specs.Steps.{Walking, stopped, going, eat, eatAll, begin, outcome}
 use Rattle.pieces.specs.Depth.{deepest}
+use Rattle.pieces.specs.Drafts.{Draft, oneDraft, shutDraft, draftRows}
 use Rattle.pieces.specs.Feeding.{headOctets, countOn, Feed, idle, outHeld, body, headOn, inHeader, feed, feedAll, feedParts, joinedParts}
 use Rattle.pieces.proofs.Steps.{cut-anywhere}
 
@@ -115,11 +114,11 @@ count-on n = go (ltb 4096 n) refl (ltb 4096 (suc n)) refl
 
 -- ---- after the octets p
 
-module _ (k : ℕ) (s : Held) where
-  abbrev eats : Walking Held → List ℕ → Walking Held
-  eats = eatAll book k Held one (shut k) number deepest
+module _ (k : ℕ) (s : Draft) where
+  abbrev eats : Walking Draft → List ℕ → Walking Draft
+  eats = eatAll book k Draft oneDraft (shutDraft k) draftRows deepest
 
-  unfoldable pub walkingAfter : List ℕ → Walking Held
+  unfoldable pub walkingAfter : List ℕ → Walking Draft
   walkingAfter p = cond (ltb (length p) (headerLength p)) (idle k s) (eats (body k (take 4 p) s) (drop (headerLength p) p))
 
   unfoldable pub feedAfter : List ℕ → Feed
@@ -171,17 +170,17 @@ module _ (k : ℕ) (s : Held) where
         let low : length p ≤ 4096 = omega (arith, header-most p) in
         let low′ : suc (length p) ≤ 4096 = omega (arith, header-most p) in
         rw (counted-low (length p) low, four-header p, lt-ltb (length p) (headerLength p) l, head-on, longer, counted-low (suc (length p)) low′, four-header q)
-        (ap (λ (w : Walking Held). record { kind = k; head = take 4 q; count = suc (length p); walking = w })
+        (ap (λ (w : Walking Draft). record { kind = k; head = take 4 q; count = suc (length p); walking = w })
         (walk-on l ∙ rw longer))
 
-    pub walk-more : headerLength p ≤ length p → eat book k Held one (shut k) number deepest (walkingAfter p) x ≡ walkingAfter q
+    pub walk-more : headerLength p ≤ length p → eat book k Draft oneDraft (shutDraft k) draftRows deepest (walkingAfter p) x ≡ walkingAfter q
     unfolding walkingAfter eatAll
     walk-more l =
         let h : headerLength q ≡ headerLength p = header-same p (x ∷ []) (omega (arith, header-least p)) in
         let f : take 4 q ≡ take 4 p = take-append-le 4 p (x ∷ []) (omega (arith, header-least p)) in
         let d : drop (headerLength p) q ≡ drop (headerLength p) p ++ (x ∷ []) = drop-append-le (headerLength p) p (x ∷ []) l in
         rw (h, f, d, le-ltb (length p) (headerLength p) l, le-ltb (length q) (headerLength p) (omega (arith, longer)))
-        (sym (cut-anywhere book k Held one (shut k) number deepest (body k (take 4 p) s) (drop (headerLength p) p) (x ∷ [])))
+        (sym (cut-anywhere book k Draft oneDraft (shutDraft k) draftRows deepest (body k (take 4 p) s) (drop (headerLength p) p) (x ∷ [])))
 
     on-body : headerLength p ≤ length p → feed (feedAfter p) x ≡ feedAfter q
     unfolding feed feedAfter

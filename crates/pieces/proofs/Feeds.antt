@@ -170,7 +170,7 @@ module _ (p : Pieces) (n : ℕ) {s : ℕ} (hs : s ≡ headerLength (p .head)) wh
 -- ---- the ways out of a stride
 
 strode-by : (p : Pieces) (part row : List ℕ) (r : Stride) → 0 < r .taken → r .taken ≤ length part → length row ≡ rowNumbers
-    → ((rows : List ℕ) → feedAllBy p (take (r .taken) part) rows ≡ record { state = r .state; rows = rowIf (r .wrote) rows (p .going .counts .rows) row }) → StrodeAll p part r row
+    → ((rows : List ℕ) → feedAllBy p (take (r .taken) part) rows ≡ record { state = r .state; rows = rowIf (r .wrote) rows (p .going .counts .rows) row (r .state .going .counts .rows) }) → StrodeAll p part r row
 strode-by p part row r a b l e = record {
   least = a;
   most = b;
@@ -258,7 +258,7 @@ pub record Feeds (part rows₀ : List ℕ) (q₀ : Pieces) (rows : List ℕ) (q 
 
 module _ {part rows₀ : List ℕ} {q₀ : Pieces} {rows : List ℕ} {q : Pieces} {i : ℕ} (w : Feeds part rows₀ q₀ rows q i) where
   pub feeds-next : {s : Stride} {row rows′ : List ℕ} → StrodeAll q (drop i part) s row → length (drop i part) + i ≡ length part
-      → rows′ ≡ rowIf (s .wrote) rows (q .going .counts .rows) row → Feeds part rows₀ q₀ rows′ (s .state) (i + s .taken)
+      → rows′ ≡ rowIf (s .wrote) rows (q .going .counts .rows) row (s .state .going .counts .rows) → Feeds part rows₀ q₀ rows′ (s .state) (i + s .taken)
   feeds-next {s} {row} {rows′} t n e =
       let xs = take (s .taken) (drop i part) in
       let d : xs ++ drop (i + s .taken) part ≡ drop i part
@@ -289,11 +289,11 @@ pub begins : {part rows numbers row : List ℕ} {q : Pieces} → FitsAll q → l
 begins f l e n = record { feeds = record { most = omega arith; all = f; same = refl }; low = l; long = refl; listed = e; six = n }
 
 pub loops-next : {part rows₀ numbers rows row : List ℕ} {q₀ q : Pieces} {i : ℕ} {s : Stride} {row′ rows′ : List ℕ} → Looping part rows₀ numbers q₀ rows row q i → i < length part
-    → StrodeAll q (drop i part) s row′ → rows′ ≡ rowIf (s .wrote) rows (q .going .counts .rows) row′ → Looping part rows₀ numbers q₀ rows′ row′ (s .state) (i + s .taken)
+    → StrodeAll q (drop i part) s row′ → rows′ ≡ rowIf (s .wrote) rows (q .going .counts .rows) row′ (s .state .going .counts .rows) → Looping part rows₀ numbers q₀ rows′ row′ (s .state) (i + s .taken)
 loops-next {part} {rows₀} {numbers} {rows} {row} {q₀} {q} {i} {s} {row′} l lt t e = record {
   feeds = feeds-next (l .feeds) t (omega (arith, length-drop i part)) e;
   low = l .low;
-  long = ap length e ∙ row-length (s .wrote) rows (q .going .counts .rows) row′ ∙ l .long;
+  long = ap length e ∙ row-length (s .wrote) rows (q .going .counts .rows) row′ (s .state .going .counts .rows) ∙ l .long;
   listed = l .listed;
   six = t .long;
 }

@@ -1,6 +1,6 @@
 -- Each step leads from a state that fits to one that does. Assumes nothing.
 use mathlib.Core.Path.{_≡_, refl, sym, ap, _∙_}
-use mathlib.Core.Bool.{Bool, true, false, cond}
+use mathlib.Core.Bool.{Bool, true, false, cond, _&&_}
 use mathlib.Core.List.{List, [], _∷_}
 use Prim.Native.Nat.{ℕ, zero, suc, _+_, _-_, _≤_, _<_}
 use native.Mathlib.Omega.{arith}
@@ -13,7 +13,7 @@ use Rattle.rules.specs.Framing.{octet, elementHeader, valueLength}
 use Rattle.rules.specs.Types.{among}
 use Rattle.rules.specs.Listings.{book}
 use Rattle.rules.specs.Standing.{Item, kept, itemOf, entered}
-use Rattle.rules.specs.declared.Head.{Head}
+use Rattle.rules.specs.Frames.{Element}
 use Rattle.taking.specs.Lacks.{lackOf}
 use Rattle.taking.specs.Held.{Held, held, one, count, counted, closed, Few}
 use Rattle.taking.specs.declared.Counts.{Counts}
@@ -21,9 +21,11 @@ use Rattle.listings.proofs.Levels.{depth}
 use Rattle.reading.proofs.Runs.{inner-low, few-closed}
 use Rattle.pieces.specs.declared.Open.{Open}
 use Rattle.pieces.specs.declared.Going.{Going}
+use Rattle.taking.specs.Frames.{apn, apnsOf}
 use Rattle.pieces.specs.Depth.{deepest}
+use Rattle.pieces.specs.Drafts.{limitedLevel, backBy, isCrowded}
 use Rattle.pieces.specs.Steps.{onward, opened}
-use Rattle.pieces.specs.Coded.{noOpen, topOf, withDepth, withHave, stop, closeTop, closeTops, checkTop, settleTop, headBy, beyond, into, Fed, fedWith, nextHeld, enters, nextOpen, placed, takeBy, gatherBy, passOne, headedBy, eatBy}
+use Rattle.pieces.specs.Coded.{noOpen, topOf, withDepth, withHave, stop, closedBy, closeTop, closeTops, checkTop, settleTop, beyond, into, withWatch, watchedBy, Fed, fedWith, nextHeld, enters, nextOpen, watched, placed, headOn, takenBy, takeBy, gatherBy, passOne, headedBy, eatBy}
 use Rattle.pieces.specs.Fits.{Slot, EachSlot, lefts, Sized, Waiting, Fits}
 
 -- ---- slots
@@ -59,8 +61,11 @@ module _ (k : ℕ) (w : Going) where
   unfolding closeTop withDepth closed
   close-sized s = go (eqb (w .depth) 0) (eqb (topOf w .left) 0)
     where
-      go : (c d : Bool)
-          → Sized k (cond c w (cond d (withDepth w (w .depth - 1) (closed (w .counts) (lackOf book k (topOf w .level) (topOf w .marks) (topOf w .home)))) w))
+      few-by : (c : Bool) → Few (cond c (w .back) (closed (w .counts) (lackOf book k (topOf w .level) (topOf w .marks) (topOf w .home)))) (w .place)
+      few-by true = record { kept = s .spare; rows = omega (arith, s .owns, s .few .rows) }
+      few-by false = record { kept = s .few .kept; rows = s .few .rows }
+
+      go : (c d : Bool) → Sized k (cond c w (cond d (withDepth w (w .depth - 1) (closedBy k w)) w))
       go true d = s
       go false false = s
       go false true = record {
@@ -70,7 +75,9 @@ module _ (k : ℕ) (w : Going) where
         have = s .have;
         each = s .each;
         ends = s .ends;
-        few = record { kept = s .few .kept; rows = s .few .rows };
+        few = few-by (isCrowded (w .limited) (w .apns));
+        owns = omega arith;
+        spare = omega arith;
         kind = λ l. s .kind (omega arith);
       }
 
@@ -84,7 +91,7 @@ close-have : (k : ℕ) (w : Going) → closeTop k w .have ≡ w .have
 unfolding closeTop withDepth
 close-have k w = go (eqb (w .depth) 0) (eqb (topOf w .left) 0)
   where
-    go : (c d : Bool) → cond c w (cond d (withDepth w (w .depth - 1) (closed (w .counts) (lackOf book k (topOf w .level) (topOf w .marks) (topOf w .home)))) w) .have ≡ w .have
+    go : (c d : Bool) → cond c w (cond d (withDepth w (w .depth - 1) (closedBy k w)) w) .have ≡ w .have
     go true d = refl
     go false false = refl
     go false true = refl
@@ -100,11 +107,11 @@ check-fits k w s l = go (eqb (w .depth) 0) (ltb (topOf w .left) elementHeader)
   where
     go : (c d : Bool) → Fits k (cond c (withHave w 0) (cond d (stop w) w))
     go true d = record {
-      sized = record { slots = s .slots; bytes = s .bytes; deep = s .deep; have = omega arith; each = s .each; ends = s .ends; few = s .few; kind = s .kind };
+      sized = record { slots = s .slots; bytes = s .bytes; deep = s .deep; have = omega arith; each = s .each; ends = s .ends; few = s .few; owns = s .owns; spare = s .spare; kind = s .kind };
       wait = λ a b c. absurd (omega arith);
     }
     go false true = record {
-      sized = record { slots = s .slots; bytes = s .bytes; deep = s .deep; have = s .have; each = s .each; ends = s .ends; few = s .few; kind = s .kind };
+      sized = record { slots = s .slots; bytes = s .bytes; deep = s .deep; have = s .have; each = s .each; ends = s .ends; few = s .few; owns = s .owns; spare = s .spare; kind = s .kind };
       wait = λ a b c. absurd (omega arith);
     }
     go false false = record { sized = s; wait = λ a b c. absurd (omega arith) }
@@ -123,10 +130,22 @@ few-one s i n m f l = record { kept = go (eqb (i .stand) kept); rows = omega (ar
     go true = omega (arith, f .kept)
     go false = omega (arith, f .kept)
 
+-- an element is one APN at the most
+pub apns-low : (t i : ℕ) → apnsOf t i ≤ 1
+apns-low t i = go (eqb t apn && eqb i 0)
+  where
+    go : (c : Bool) → cond c 1 0 ≤ 1
+    go true = omega arith
+    go false = omega arith
+
+pub rows-one : (s : Held) (i : Item) → one s i .counts .rows ≡ s .counts .rows + 1
+unfolding one count counted
+rows-one s i = refl
+
 module _ (k : ℕ) (w : Going) (x came : ℕ) (rows : List ℕ) (z : Sized k w) (some : 0 < w .depth)
     (room : elementHeader + valueLength (w .some) ≤ topOf w .left) where
-  abbrev h : Head
-  h = headBy (w .some) x
+  abbrev h : Element
+  h = headOn k w x
 
   abbrev c : Counts
   c = nextHeld k w h rows .counts
@@ -140,65 +159,91 @@ module _ (k : ℕ) (w : Going) (x came : ℕ) (rows : List ℕ) (z : Sized k w) 
   few-next : (m : ℕ) → w .place < m → Few c m
   few-next m l = few-one (held (w .counts) rows) _ (w .place) m (z .few) l
 
+  rows-next : c .rows ≡ w .counts .rows + 1
+  rows-next = rows-one (held (w .counts) rows) _
+
   pub in-place : w .place + elementHeader + valueLength (w .some) ≤ largestMessage
   in-place = omega (arith, z .ends, left-most (w .levels) (w .depth - 1))
 
-  pub beyond-sized : Sized k (beyond w (nextOpen k w h) (h .len) came c)
-  unfolding beyond
-  beyond-sized = record {
-    slots = length-set (w .levels) (w .depth - 1) (nextOpen k w h) ∙ z .slots;
-    bytes = z .bytes;
-    deep = z .deep;
-    have = omega arith;
-    each = each-set (w .levels) (w .depth - 1) (nextOpen k w h) (z .each) on-slot;
-    ends = omega (arith, z .ends, lefts-set (w .levels) (w .depth - 1) (nextOpen k w h) top-in);
-    few = few-next _ (omega arith);
-    kind = z .kind;
-  }
+  -- whatever is watched
+  module _ (limited : Bool) (n : ℕ) (back : Counts) (own : back .rows + n ≤ c .rows) (less : back .kept ≤ back .rows) where
+    beyond-sized : Sized k (beyond (withWatch w limited n back) (nextOpen k w h) (h .len) came c)
+    unfolding beyond withWatch
+    beyond-sized = record {
+      slots = length-set (w .levels) (w .depth - 1) (nextOpen k w h) ∙ z .slots;
+      bytes = z .bytes;
+      deep = z .deep;
+      have = omega arith;
+      each = each-set (w .levels) (w .depth - 1) (nextOpen k w h) (z .each) on-slot;
+      ends = omega (arith, z .ends, lefts-set (w .levels) (w .depth - 1) (nextOpen k w h) top-in);
+      few = few-next _ (omega arith);
+      owns = own;
+      spare = less;
+      kind = z .kind;
+    }
 
-  pub into-sized : came ≤ 1 → w .depth < deepest → Sized k (into w (nextOpen k w h) (enters k w h) (h .len) x came c)
-  unfolding into
-  into-sized one-most deep =
-      let on = nextOpen k w h in
-      let levels = set (w .levels) (w .depth - 1) on in
-      let inn = opened (enters k w h) (c .rows) (w .place) (h .len) in
-      let few = few-next (w .place + elementHeader) (omega arith) in
-      let n : length levels ≡ deepest = length-set (w .levels) (w .depth - 1) on ∙ z .slots in
-      record {
-        slots = length-set levels (w .depth) inn ∙ n;
-        bytes = length-set (w .some) 0 x ∙ z .bytes;
-        deep = omega arith;
-        have = omega arith;
-        each = each-set levels (w .depth) inn (each-set (w .levels) (w .depth - 1) on (z .each) on-slot)
-            (record { level = inner-low k (topOf w .level) (topOf w .marks) h (enters k w h) refl; parent = omega (arith, few .rows, in-place); home = omega (arith, in-place) });
-        ends = omega (arith, z .ends, lefts-set (w .levels) (w .depth - 1) on top-in, lefts-set levels (w .depth) inn (omega (arith, n)));
-        few = few;
-        kind = λ l. z .kind some;
-      }
+    into-sized : came ≤ 1 → w .depth < deepest → Sized k (into (withWatch w limited n back) (nextOpen k w h) (enters k w h) (h .len) x came c)
+    unfolding into withWatch
+    into-sized one-most deep =
+        let on = nextOpen k w h in
+        let levels = set (w .levels) (w .depth - 1) on in
+        let inn = opened (enters k w h) (c .rows) (w .place) (h .len) in
+        let few = few-next (w .place + elementHeader) (omega arith) in
+        let m : length levels ≡ deepest = length-set (w .levels) (w .depth - 1) on ∙ z .slots in
+        record {
+          slots = length-set levels (w .depth) inn ∙ m;
+          bytes = length-set (w .some) 0 x ∙ z .bytes;
+          deep = omega arith;
+          have = omega arith;
+          each = each-set levels (w .depth) inn (each-set (w .levels) (w .depth - 1) on (z .each) on-slot)
+              (record { level = inner-low k (topOf w .level) (topOf w .marks) h (enters k w h) refl; parent = omega (arith, few .rows, in-place); home = omega (arith, in-place) });
+          ends = omega (arith, z .ends, lefts-set (w .levels) (w .depth - 1) on top-in, lefts-set levels (w .depth) inn (omega (arith, m)));
+          few = few;
+          owns = own;
+          spare = less;
+          kind = λ l. z .kind some;
+        }
+
+  own-beyond : w .back .rows + (w .apns + apnsOf (h .typ) (h .inst)) ≤ c .rows
+  own-beyond = omega (arith, z .owns, rows-next, apns-low (h .typ) (h .inst))
+
+  own-into : backBy (w .counts) c .rows + 0 ≤ c .rows
+  own-into = omega arith
+
+  spare-into : backBy (w .counts) c .kept ≤ backBy (w .counts) c .rows
+  spare-into = omega (arith, z .few .kept, rows-next)
+
+  abbrev deeper : Bool → Going → Going
+  deeper d v = cond d (into v (nextOpen k w h) (enters k w h) (h .len) x came c) (beyond v (nextOpen k w h) (h .len) came c)
+
+  abbrev entering : Going
+  entering = withWatch w (limitedLevel (enters k w h)) 0 (backBy (w .counts) c)
+
+  deeper-sized : came ≤ 1 → (d : Bool) → ltb (w .depth) deepest ≡ d → Sized k (deeper d entering)
+  deeper-sized l true e = into-sized (limitedLevel (enters k w h)) 0 (backBy (w .counts) c) own-into spare-into l (ltb-true _ _ e)
+  deeper-sized l false e = beyond-sized (limitedLevel (enters k w h)) 0 (backBy (w .counts) c) own-into spare-into
 
   pub placed-sized : came ≤ 1 → Sized k (placed k w h x came c)
-  unfolding placed
-  placed-sized l = go (eqb (enters k w h) 0) (ltb (w .depth) deepest) refl
+  unfolding placed watchedBy withWatch
+  placed-sized l = go (eqb (enters k w h) 0)
     where
-      go : (a d : Bool) → ltb (w .depth) deepest ≡ d
-          → Sized k (cond a (beyond w (nextOpen k w h) (h .len) came c)
-          (cond d (into w (nextOpen k w h) (enters k w h) (h .len) x came c) (beyond w (nextOpen k w h) (h .len) came c)))
-      go true d e = beyond-sized
-      go false true e = into-sized l (ltb-true _ _ e)
-      go false false e = beyond-sized
+      go : (a : Bool)
+          → Sized k (cond a (beyond (cond a (withWatch w (w .limited) (w .apns + apnsOf (h .typ) (h .inst)) (w .back)) entering) (nextOpen k w h) (h .len) came c)
+          (deeper (ltb (cond a (withWatch w (w .limited) (w .apns + apnsOf (h .typ) (h .inst)) (w .back)) entering .depth) deepest) (cond a (withWatch w (w .limited) (w .apns + apnsOf (h .typ) (h .inst)) (w .back)) entering)))
+      go true = beyond-sized (w .limited) (w .apns + apnsOf (h .typ) (h .inst)) (w .back) own-beyond (z .spare)
+      go false = deeper-sized l (ltb (w .depth) deepest) refl
 
   placed-have : came ≤ 1 → placed k w h x came c .have < 4
-  unfolding placed beyond into
-  placed-have l = go (eqb (enters k w h) 0) (ltb (w .depth) deepest)
+  unfolding placed watchedBy beyond into
+  placed-have l = go (eqb (enters k w h) 0) (ltb (watched k w h c .depth) deepest)
     where
-      go : (a d : Bool) → cond a (beyond w (nextOpen k w h) (h .len) came c)
-          (cond d (into w (nextOpen k w h) (enters k w h) (h .len) x came c) (beyond w (nextOpen k w h) (h .len) came c)) .have < 4
+      go : (a d : Bool) → cond a (beyond (watched k w h c) (nextOpen k w h) (h .len) came c) (deeper d (watched k w h c)) .have < 4
       go true d = omega arith
       go false true = omega arith
       go false false = omega arith
 
   pub take-fits : came ≤ 1 → Fits k (takeBy k w x came rows .going)
-  unfolding takeBy
+  unfolding takeBy takenBy
   take-fits l = settle-fits k (placed k w h x came c) (placed-sized l) (placed-have l)
 
 -- ---- one octet
@@ -214,6 +259,8 @@ module _ (k : ℕ) (w : Going) where
     each = s .each;
     ends = s .ends;
     few = s .few;
+    owns = s .owns;
+    spare = s .spare;
     kind = s .kind;
   }
 
@@ -224,14 +271,14 @@ module _ (k : ℕ) (w : Going) where
   pub pass-fits : Fits k w → Fits k (passOne w)
   unfolding passOne
   pass-fits f = let s = f .sized in record {
-    sized = record { slots = s .slots; bytes = s .bytes; deep = s .deep; have = s .have; each = s .each; ends = s .ends; few = s .few; kind = s .kind };
+    sized = record { slots = s .slots; bytes = s .bytes; deep = s .deep; have = s .have; each = s .each; ends = s .ends; few = s .few; owns = s .owns; spare = s .spare; kind = s .kind };
     wait = λ a b c. let t = f .wait a b c in record { some = t .some; room = t .room };
   }
 
   pub stop-fits : Sized k w → Fits k (stop w)
   unfolding stop
   stop-fits s = record {
-    sized = record { slots = s .slots; bytes = s .bytes; deep = s .deep; have = s .have; each = s .each; ends = s .ends; few = s .few; kind = s .kind };
+    sized = record { slots = s .slots; bytes = s .bytes; deep = s .deep; have = s .have; each = s .each; ends = s .ends; few = s .few; owns = s .owns; spare = s .spare; kind = s .kind };
     wait = λ a b c. let y : _≡_ {A = ℕ} 0 1 = cc in absurd (omega arith);
   }
 

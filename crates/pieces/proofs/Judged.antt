@@ -9,7 +9,7 @@ use native.Mathlib.Omega.{arith}
 use borrow.Author.Tests.{ltb-true, ltb-false, lt-ltb, le-ltb, ne-eqb}
 use lib.Dec.{eqb, ltb}
 use lib.ListN.{length, take, drop, length-append, length-take, length-drop, length-replicate, take-append-drop}
-use lib.Seq.{length-take-le, drop-append-add, drop-at, drop-drop, take-at}
+use lib.Seq.{getD-drop, length-take-le, drop-append-add, drop-at, drop-drop, take-at}
 use Rattle.rules.specs.Sizes.{largestMessage, headerNumbers, rowNumbers, used}
 use Rattle.rules.specs.Framing.{octet, flagT, lengthField, headerLength, messageType}
 use Rattle.rules.specs.Listings.{Message, book, messageOf}
@@ -21,20 +21,25 @@ use Rattle.rules.specs.Answers.{refusedReading, readingOf, readRows, Read, deci
 use Rattle.rules.specs.declared.Verdict.{Verdict}
 use Rattle.rules.specs.declared.Reading.{Reading}
 use Rattle.rules.specs.declared.Decision.{Decision}
+use Rattle.rules.proofs.Standings.{no-mark}
 use Rattle.rules.proofs.Header.{Passed, passed}
 use Rattle.rules.proofs.Rows.{Octets, rows-length}
 use Rattle.rules.proofs.Readings.{refusal-is, count-is, all-laid}
-use Rattle.taking.specs.Held.{Held, held, one, noCounts}
-use Rattle.reading.specs.Scan.{shut, number, wholeReading, heldOf, scan}
+use Rattle.taking.specs.Held.{Held, held, noCounts}
+use Rattle.reading.specs.Scan.{wholeReading, scan}
 use Rattle.reading.proofs.Endings.{ends-refused, ends-cut, ends-whole, rest-is}
 use Rattle.judging.specs.Judging.{given}
 use Rattle.judging.proofs.Deciding.{verdict-is, decided-yes}
 use Rattle.judging.proofs.Accepted.{Ready, ready}
 use Rattle.pieces.specs.Steps.{Walking, eatAll, begin, outcome}
 use Rattle.pieces.specs.Depth.{deepest, nests}
-use Rattle.pieces.specs.Feeding.{Feed, idle, outHeld, body, feedAll, feedParts, joinedParts, zeros, started, outReading, fedReading, fedVerdict, headed, fedTable}
+use Rattle.pieces.specs.Drafts.{Draft, plain, oneDraft, shutDraft, draftRows}
+use Rattle.pieces.specs.Loose.{loose}
+use Rattle.pieces.specs.Feeding.{Feed, idle, stateOf, outHeld, body, feedAll, feedParts, joinedParts, zeros, started, outReading, fedReading, fedVerdict, headed, fedTable}
 use Rattle.pieces.proofs.Depth.{body-nests}
 use Rattle.pieces.proofs.Steps.{begin-is}
+use Rattle.pieces.proofs.Backs.{Clean}
+use Rattle.pieces.proofs.Late.{Agrees, late-is}
 use Rattle.pieces.proofs.Feeding.{four-type, four-length, four-header, four-body, four-checks, own-length, counted, counted-low, counted-high, walkingAfter, feedAfter, parts-more}
 
 -- ---- checks 1 to 8
@@ -53,9 +58,9 @@ count-enough k m = go (ltb 4096 (length m)) refl
 
 -- ---- checks 1 to 9
 
-module _ (k : ℕ) (m rows : List ℕ) where
-  abbrev before : Held
-  before = held noCounts rows
+module _ (k : ℕ) (m rows : List ℕ) (clean : Clean 0 rows) where
+  abbrev before : Draft
+  before = plain noCounts rows
 
   abbrev fed : Feed
   fed = feedAfter k before m
@@ -82,7 +87,7 @@ module _ (k : ℕ) (m rows : List ℕ) where
         ap (λ (n : ℕ). refuses (first (openingChecks book k (take 4 m) n))) said
         ∙ ap (λ (vs : List Verdict). refuses (first vs)) (four-checks m book k (length m) ∙ own-length m book k) ∙ ok
 
-    body-is : body k (take 4 m) before ≡ begin book k Held one (shut k) number deepest (bodyLevel book m) (headerLength m) size before
+    body-is : body k (take 4 m) before ≡ begin book k Draft oneDraft (shutDraft k) draftRows deepest (bodyLevel book m) (headerLength m) size before
     unfolding body
     body-is = rw (four-ok, said, four-body m, four-header m)
 
@@ -90,33 +95,48 @@ module _ (k : ℕ) (m rows : List ℕ) where
     unfolding bodyLevel
     deep = body-nests (messageType m)
 
-    pub fed-walks : outHeld k (walkingAfter k before m) ≡ scan k (bodyLevel book m) fresh 0 0 (headerLength m) (drop (headerLength m) m) before
+    fed-walks : outHeld k (walkingAfter k before m) ≡ walk (loose book) k Draft oneDraft (shutDraft k) draftRows (bodyLevel book m) fresh 0 0 (headerLength m) (drop (headerLength m) m) before
     unfolding walkingAfter
     fed-walks =
         rw (le-ltb (length m) (headerLength m) (pass .has-header), body-is)
-        (begin-is book k Held one (shut k) number deepest (bodyLevel book m) (headerLength m) size before (drop (headerLength m) m)
+        (begin-is book k Draft oneDraft (shutDraft k) draftRows deepest (bodyLevel book m) (headerLength m) size before (drop (headerLength m) m)
         (simp length-drop (omega arith)) deep
         ∙ rw (rest-is m (headerLength m)))
 
-    walk-read : Octets m → (o : Out Held) → scan k (bodyLevel book m) fresh 0 0 (headerLength m) (drop (headerLength m) m) before ≡ o
-        → Read k m rows (outReading o) (heldOf o .rows)
-    unfolding outReading
-    walk-read oct (cut q s) w = ends-cut k m rows ok q s w
-    walk-read oct (whole s) w = ends-whole k m rows ok s w oct
-
-    abbrev out : Out Held
+    abbrev out : Out Draft
     out = outHeld k (walkingAfter k before m)
+
+    abbrev scanned : Out Held
+    scanned = scan k (bodyLevel book m) fresh 0 0 (headerLength m) (drop (headerLength m) m) (held noCounts rows)
+
+    -- and that is what the reading comes to
+    agrees : Agrees out scanned
+    agrees =
+        rw fed-walks
+        (late-is k (bodyLevel book m) fresh 0 0 (headerLength m) (drop (headerLength m) m) before (held noCounts rows)
+        (record { counts = refl; rows = refl; free = refl; clean = clean }))
+
+    -- with the rows that a whole walk leaves
+    walk-read : Octets m → (o : Out Draft) (r : Out Held) → Agrees o r → scanned ≡ r → (rows′ : List ℕ) × Read k m rows (outReading o) rows′ × (o ≡ whole (stateOf o) → rows′ ≡ stateOf o .rows)
+    unfolding outReading
+    walk-read oct (cut q s) (cut q′ t) e w = (t .rows, rw e (ends-cut k m rows ok q′ t w), λ z. absurd (never-whole q s z))
+      where
+        never-whole : (q : ℕ) (s : Draft) → cut q s ≡ whole s → ⊥
+        never-whole q s z = let y : _≡_ {A = ℕ} 0 1 = cc in omega arith
+    walk-read oct (cut q s) (whole t) e w = absurd e
+    walk-read oct (whole s) (cut q t) e w = absurd e
+    walk-read oct (whole s) (whole t) e w = (t .rows, rw (e .counts) (ends-whole k m rows ok t w oct), λ z. sym (e .rows))
 
     pub fed-passed : fedReading fed ≡ outReading out
     unfolding fedReading feedAfter
     fed-passed = rw (checks-are, ok)
 
-    pub fed-reads : Octets m → Read k m rows (fedReading fed) (heldOf out .rows)
-    fed-reads oct = rw fed-passed (walk-read oct out (sym fed-walks))
+    pub fed-reads : Octets m → (rows′ : List ℕ) × Read k m rows (fedReading fed) rows′ × (out ≡ whole (stateOf out) → rows′ ≡ stateOf out .rows)
+    fed-reads oct = rw fed-passed (walk-read oct out scanned agrees refl)
 
   some-read : Octets m → (c : Bool) → refuses (first (headerChecks book k m)) ≡ c → (rows′ : List ℕ) × Read k m rows (fedReading fed) rows′
   some-read oct true e = (rows, ends-refused k m rows (first (headerChecks book k m)) (fedReading fed) refl e (fed-refused e))
-  some-read oct false e = (heldOf (out e) .rows, fed-reads e oct)
+  some-read oct false e = let r = fed-reads e oct in (r .0, r .1)
 
   -- ---- the verdict
 
@@ -146,22 +166,33 @@ given-fits r room z e = go (ltb room (used (r .rows))) refl e
 
 -- ---- the table
 
+-- a table of zeros has no row
+pub blank-clean : (room : ℕ) → Clean 0 (drop headerNumbers (zeros room))
+blank-clean room = record { none = λ j l. getD-drop headerNumbers (zeros room) j 0 ∙ no-mark room (headerNumbers + j) }
+
 module _ (k room : ℕ) (m : List ℕ) (oct : Octets m) where
   abbrev blank : List ℕ
   blank = drop headerNumbers (zeros room)
 
+  -- every number of it is zero
+  pub clean : Clean 0 blank
+  clean = blank-clean room
+
   abbrev after : Feed
-  after = feedAfter k (held noCounts blank) m
+  after = feedAfter k (plain noCounts blank) m
 
   -- on acceptance: the header over the rows is the judge's table
-  module _ (ok : refuses (first (headerChecks book k m)) ≡ false) (s : Held) (w : outHeld k (walkingAfter k (held noCounts blank) m) ≡ whole s)
+  module _ (ok : refuses (first (headerChecks book k m)) ≡ false) (s : Draft) (w : outHeld k (walkingAfter k (plain noCounts blank) m) ≡ whole s)
       (acc : refuses (fedVerdict after room) ≡ false) where
     reading-is : fedReading after ≡ wholeReading (s .counts)
     unfolding outReading
-    reading-is = fed-passed k m blank ok ∙ rw w
+    reading-is = fed-passed k m blank clean ok ∙ rw w
 
     read : Read k m blank (wholeReading (s .counts)) (s .rows)
-    read = rw (reading-is, w) at (fed-reads k m blank ok oct)
+    read =
+        let r = fed-reads k m blank clean ok oct in
+        let e : r .0 ≡ s .rows = r .2 (w ∙ ap (λ (o : Out Draft). whole (stateOf o)) (sym w)) ∙ ap (λ (o : Out Draft). stateOf o .rows) w in
+        rw (reading-is, e) at (r .1)
 
     fits : used (s .counts .rows) ≤ room
     unfolding wholeReading
@@ -222,34 +253,34 @@ module _ (k room : ℕ) (m : List ℕ) (oct : Octets m) where
   clash : (v : Verdict) → refuses v ≡ true → refuses v ≡ false → ⊥
   clash v a d = let y : _≡_ {A = ℕ} 0 1 = cc in omega arith
 
-  by-out : (ok : refuses (first (headerChecks book k m)) ≡ false) → refuses (fedVerdict after room) ≡ false → (o : Out Held)
-      → outHeld k (walkingAfter k (held noCounts blank) m) ≡ o → headed (messageType m) k (heldOf o) ≡ laid (tableOf (messageType m) k (items book k m)) (zeros room)
+  by-out : (ok : refuses (first (headerChecks book k m)) ≡ false) → refuses (fedVerdict after room) ≡ false → (o : Out Draft)
+      → outHeld k (walkingAfter k (plain noCounts blank) m) ≡ o → headed (messageType m) k (stateOf o) ≡ laid (tableOf (messageType m) k (items book k m)) (zeros room)
   unfolding outReading
   by-out ok acc (cut q s) w =
-      let e : fedReading after ≡ refusedReading (refusedAt 9 67 q 0 0) = fed-passed k m blank ok ∙ rw w in
+      let e : fedReading after ≡ refusedReading (refusedAt 9 67 q 0 0) = fed-passed k m blank clean ok ∙ rw w in
       absurd (clash (fedVerdict after room) (rw e (given-refuses (refusedAt 9 67 q 0 0) room refl)) acc)
   by-out ok acc (whole s) w = table-is ok s w acc
 
   by-header : refuses (fedVerdict after room) ≡ false → (c : Bool) → refuses (first (headerChecks book k m)) ≡ c
-      → headed (messageType m) k (heldOf (outHeld k (walkingAfter k (held noCounts blank) m))) ≡ laid (tableOf (messageType m) k (items book k m)) (zeros room)
-  by-header acc true e = absurd (clash (fedVerdict after room) (rw (fed-refused k m blank e) (given-refuses (first (headerChecks book k m)) room e)) acc)
-  by-header acc false e = by-out e acc (outHeld k (walkingAfter k (held noCounts blank) m)) refl
+      → headed (messageType m) k (stateOf (outHeld k (walkingAfter k (plain noCounts blank) m))) ≡ laid (tableOf (messageType m) k (items book k m)) (zeros room)
+  by-header acc true e = absurd (clash (fedVerdict after room) (rw (fed-refused k m blank clean e) (given-refuses (first (headerChecks book k m)) room e)) acc)
+  by-header acc false e = by-out e acc (outHeld k (walkingAfter k (plain noCounts blank) m)) refl
 
   pub fed-table : fedTable after room ≡ judgeTable book k m (zeros room)
   unfolding fedTable judgeTable feedAfter
   fed-table = go (refuses (fedVerdict after room)) refl
     where
       same : fedVerdict after room ≡ judgeVerdict book k m (length (zeros room))
-      same = fed-verdict k m blank room oct ∙ rw (length-replicate {A = ℕ} room 0)
+      same = fed-verdict k m blank clean room oct ∙ rw (length-replicate {A = ℕ} room 0)
 
       go : (c : Bool) → refuses (fedVerdict after room) ≡ c
-          → cond (refuses (fedVerdict after room)) (zeros room) (headed (messageType (take 4 m)) k (heldOf (outHeld k (walkingAfter k (held noCounts blank) m)))) ≡ judgeTable book k m (zeros room)
+          → cond (refuses (fedVerdict after room)) (zeros room) (headed (messageType (take 4 m)) k (stateOf (outHeld k (walkingAfter k (plain noCounts blank) m)))) ≡ judgeTable book k m (zeros room)
       go true e = let f : refuses (judgeVerdict book k m (length (zeros room))) ≡ true = rw same at e in rw (e, f)
       go false e = let f : refuses (judgeVerdict book k m (length (zeros room))) ≡ false = rw same at e in rw (e, f, four-type m) (by-header e (refuses (first (headerChecks book k m))) refl)
 
 -- ---- however the octets are cut
 
-pub start-is : (k : ℕ) (table : List ℕ) → started k table ≡ feedAfter k (held noCounts (drop headerNumbers table)) []
+pub start-is : (k : ℕ) (table : List ℕ) → started k table ≡ feedAfter k (plain noCounts (drop headerNumbers table)) []
 unfolding started feedAfter walkingAfter headerLength flagT counted
 start-is k table = refl
 
@@ -260,8 +291,8 @@ pub record Came (k room : ℕ) (ps : List (List ℕ)) : Type 0 where
 
 pub pieces : (k room : ℕ) (ps : List (List ℕ)) → Octets (joinedParts ps) → Came k room ps
 pieces k room ps oct =
-    let e : feedParts (started k (zeros room)) ps ≡ feedAfter k (held noCounts (drop headerNumbers (zeros room))) (joinedParts ps)
-    = ap (λ (f : Feed). feedParts f ps) (start-is k (zeros room)) ∙ parts-more k (held noCounts (drop headerNumbers (zeros room))) [] ps in record {
-      verdict = rw e (fed-verdict k (joinedParts ps) (drop headerNumbers (zeros room)) room oct);
+    let e : feedParts (started k (zeros room)) ps ≡ feedAfter k (plain noCounts (drop headerNumbers (zeros room))) (joinedParts ps)
+    = ap (λ (f : Feed). feedParts f ps) (start-is k (zeros room)) ∙ parts-more k (plain noCounts (drop headerNumbers (zeros room))) [] ps in record {
+      verdict = rw e (fed-verdict k (joinedParts ps) (drop headerNumbers (zeros room)) (blank-clean room) room oct);
       table = rw e (fed-table k room (joinedParts ps) oct);
     }

@@ -1,8 +1,11 @@
 pub mod Accepting
+pub mod Loose
 pub mod Rests
 pub mod Depth
+pub mod Limits
 pub mod Steps
 pub mod Feeding
+pub mod Late
 pub mod Judged
 pub mod Fits
 pub mod Viewed
@@ -11,8 +14,10 @@ pub mod Bodies
 pub mod Main
 pub mod Codes
 pub mod Promised
+pub mod Past
 pub mod StandIns
 pub mod Alone
+pub mod Backs
 pub mod Taken
 pub mod Headed
 pub mod Strides

@@ -20,25 +20,27 @@ use Rattle.rules.specs.Answers.{refusedReading}
 use Rattle.rules.specs.declared.Verdict.{Verdict}
 use Rattle.rules.specs.declared.Reading.{Reading}
 use Rattle.rules.proofs.Rows.{Octets, header-least}
-use Rattle.taking.specs.Held.{Held, held, one, noCounts, putNumbers, putRow, Few}
-use Rattle.reading.specs.Scan.{shut, number, wholeReading, heldOf}
+use Rattle.taking.specs.Held.{one, noCounts, putNumbers, putRow, Few}
+use Rattle.reading.specs.Scan.{wholeReading}
 use Rattle.taking.specs.declared.Counts.{Counts}
 use Rattle.judging.specs.Judging.{given}
 use Rattle.pieces.specs.declared.Going.{Going}
 use Rattle.pieces.specs.declared.Pieces.{Pieces}
 use Rattle.pieces.specs.declared.Told.{Told}
 use Rattle.pieces.specs.Depth.{deepest}
+use Rattle.pieces.specs.Drafts.{Draft, plain}
 use Rattle.pieces.specs.Steps.{Walking, stopped, going, eat, outcome}
-use Rattle.pieces.specs.Feeding.{countOn, Feed, idle, outHeld, body, zeros, joinedParts, outReading, fedReading, fedVerdict, headed, fedTable}
-use Rattle.pieces.specs.Coded.{topOf, takeBy, headedBy, eatBy, gatherBy, stop, passOne, Fed, fedWith, nextHeld, headBy, idleBy, bodyBy, headAfter, inHeaderBy, FedPieces, feedBy, feedAllBy}
+use Rattle.pieces.specs.Feeding.{countOn, Feed, idle, stateOf, outHeld, body, zeros, joinedParts, outReading, fedReading, fedVerdict, headed, fedTable}
+use Rattle.pieces.specs.Coded.{topOf, draftBy, takeBy, headedBy, eatBy, gatherBy, stop, passOne, Fed, fedWith, nextHeld, headBy, idleBy, bodyBy, headAfter, inHeaderBy, FedPieces, feedBy, feedAllBy}
 use Rattle.pieces.specs.Fits.{Fits}
 use Rattle.pieces.specs.Answers.{takes, startOf, partTold, partTable, endedBy, headerBy, readingBy, verdictBy, endTold, endTable, Lent, begun, partAfter}
+use Rattle.pieces.proofs.Alone.{put-length, back-length}
 use Rattle.pieces.proofs.Fits.{eat-fits}
 use Rattle.pieces.proofs.Viewed.{walkingOf, stackOf, eat-view, body-view}
 use Rattle.pieces.proofs.Tests.{fits-test}
 use Rattle.pieces.proofs.Bodies.{idle-fits, body-fits}
 use Rattle.pieces.proofs.Feeding.{four-checks, header-most, header-same, counted, counted-low, counted-high, counted-least, count-on, walkingAfter, walk-on, walk-more, feedAfter}
-use Rattle.pieces.proofs.Judged.{fed-verdict, fed-table}
+use Rattle.pieces.proofs.Judged.{blank-clean, fed-verdict, fed-table}
 
 -- ---- the header's octets
 
@@ -106,19 +108,10 @@ module _ (h m : List ℕ) (x : ℕ) (four : length h ≡ 4) (e : Heads4 h m) whe
 
 -- ---- the rows stay as many numbers
 
-put-length : (rows : List ℕ) (n a b c d e f : ℕ) → length (putNumbers rows n a b c d e f) ≡ length rows
-unfolding putNumbers
-put-length rows n a b c d e f = go (leb (rowNumbers * n + rowNumbers) (length rows))
-  where
-    go : (t : Bool) → length (cond t
-        (set (set (set (set (set (set rows (rowNumbers * n) a) (rowNumbers * n + 1) b) (rowNumbers * n + 2) c) (rowNumbers * n + 3) d) (rowNumbers * n + 4) e) (rowNumbers * n + 5) f) rows) ≡ length rows
-    go true = simp length-set
-    go false = refl
-
 module _ (k : ℕ) (w : Going) (rows : List ℕ) where
   take-length′ : (x came : ℕ) → length (takeBy k w x came rows .rows) ≡ length rows
   unfolding takeBy one putRow
-  take-length′ x came = put-length rows _ _ _ _ _ _ _
+  take-length′ x came = back-length _ _ _ ∙ put-length rows _ _ _ _ _ _ _
 
   headed-length : length (headedBy k w rows .rows) ≡ length rows
   unfolding headedBy
@@ -162,8 +155,8 @@ module _ (k room : ℕ) where
   abbrev blank : List ℕ
   blank = drop headerNumbers (zeros room)
 
-  abbrev none : Held
-  none = held noCounts blank
+  abbrev none : Draft
+  none = plain noCounts blank
 
   pub record Like (p : Pieces) (rows m : List ℕ) : Type 0 where
     pub kind : p .kind ≡ k
@@ -176,11 +169,11 @@ module _ (k room : ℕ) where
     pub fits : Fits k (p .going)
 
   -- what was made so far
-  made-is : (w : Going) (rows : List ℕ) → heldOf (outHeld k (walkingOf w rows)) ≡ held (w .counts) rows
+  made-is : (w : Going) (rows : List ℕ) → stateOf (outHeld k (walkingOf w rows)) ≡ draftBy w rows
   unfolding walkingOf
   made-is w rows = go (w .stopped)
     where
-      go : (c : Bool) → heldOf (outHeld k (cond c (stopped (w .place) (held (w .counts) rows)) (going (stackOf (w .depth) (w .levels)) (w .place) (take (w .have) (w .some)) (w .pass) (held (w .counts) rows)))) ≡ held (w .counts) rows
+      go : (c : Bool) → stateOf (outHeld k (cond c (stopped (w .place) (draftBy w rows)) (going (stackOf (w .depth) (w .levels)) (w .place) (take (w .have) (w .some)) (w .pass) (draftBy w rows)))) ≡ draftBy w rows
       go true = refl
       go false = refl
 
@@ -188,10 +181,10 @@ module _ (k room : ℕ) where
     abbrev q′ : List ℕ
     q′ = m ++ (x ∷ [])
 
-    header-is : headerLength (p .head) ≡ headerLength m
+    pub header-is : headerLength (p .head) ≡ headerLength m
     header-is = header-by (p .head) m (a .head 0 (omega arith))
 
-    low-count : length m < headerLength m → p .count ≡ length m
+    pub low-count : length m < headerLength m → p .count ≡ length m
     low-count l = a .count ∙ counted-low (length m) (omega (arith, header-most m))
 
     abbrev h′ : List ℕ
@@ -205,8 +198,8 @@ module _ (k room : ℕ) where
     unfolding walkingAfter
     idle-there l = rw (lt-ltb (length m) (headerLength m) l)
 
-    nothing : length m < headerLength m → held (p .going .counts) rows ≡ none
-    nothing l = sym (made-is (p .going) rows) ∙ ap (λ (t : Walking Held). heldOf (outHeld k t)) (a .walks ∙ idle-there l)
+    pub nothing : length m < headerLength m → draftBy (p .going) rows ≡ none
+    nothing l = sym (made-is (p .going) rows) ∙ ap (λ (t : Walking Draft). stateOf (outHeld k t)) (a .walks ∙ idle-there l)
 
     abbrev walking′ : Going
     walking′ = cond (eqb (p .count + 1) (headerLength h′)) (bodyBy k h′) (p .going)
@@ -228,7 +221,7 @@ module _ (k room : ℕ) where
             let e : suc (length m) ≡ headerLength q′ = eqb-true _ _ u in
             let hn = head-on l in
             let w : h′ ≡ take 4 q′ = head-whole h′ q′ 0 (hn .1) (hn .0) (omega (arith, header-least q′, longer)) in
-            body-view k h′ rows ∙ ap (λ (t : List ℕ). body k h′ (held noCounts t)) (ap (λ (t : Held). t .rows) (nothing l)) ∙ ap (λ (t : List ℕ). body k t none) w
+            body-view k h′ rows ∙ ap (λ (t : List ℕ). body k h′ (plain noCounts t)) (ap (λ (t : Draft). t .rows) (nothing l)) ∙ ap (λ (t : List ℕ). body k t none) w
         go false u = a .walks ∙ idle-there l
 
     header-fits : length m < headerLength m → Fits k walking′
@@ -310,7 +303,7 @@ module _ (k room : ℕ) where
     pub long : length (l .table) ≡ room
 
   -- the rows stand after the header again
-  rows-again : (t rows : List ℕ) → length rows ≡ length (drop headerNumbers t) → (drop headerNumbers (take headerNumbers t ++ rows) ≡ rows) × (length (take headerNumbers t ++ rows) ≡ length t)
+  pub rows-again : (t rows : List ℕ) → length rows ≡ length (drop headerNumbers t) → (drop headerNumbers (take headerNumbers t ++ rows) ≡ rows) × (length (take headerNumbers t ++ rows) ≡ length t)
   rows-again t rows e = (go (ltb (length t) headerNumbers) refl, size)
     where
       size : length (take headerNumbers t ++ rows) ≡ length t
@@ -361,7 +354,7 @@ module _ (k room : ℕ) where
     out-there = go (p .going .stopped)
       where
         go : (c : Bool) → cond c (refusedReading (refusedAt 9 67 (p .going .place) 0 0)) (wholeReading (p .going .counts))
-            ≡ outReading (outHeld k (cond c (stopped (p .going .place) (held (p .going .counts) rows)) (going (stackOf (p .going .depth) (p .going .levels)) (p .going .place) (take (p .going .have) (p .going .some)) (p .going .pass) (held (p .going .counts) rows))))
+            ≡ outReading (outHeld k (cond c (stopped (p .going .place) (draftBy (p .going) rows)) (going (stackOf (p .going .depth) (p .going .levels)) (p .going .place) (take (p .going .have) (p .going .some)) (p .going .pass) (draftBy (p .going) rows))))
         go true = refl
         go false = refl
 
@@ -374,17 +367,17 @@ module _ (k room : ℕ) where
 
     pub told : Octets m → endTold p (l .table) .verdict ≡ judgeVerdict book k m room
     unfolding endTold
-    told oct = rw (taken-is, a .long) (verdict-there ∙ fed-verdict k m blank room oct)
+    told oct = rw (taken-is, a .long) (verdict-there ∙ fed-verdict k m blank (blank-clean room) room oct)
 
-    held-there : held (p .going .counts) rows ≡ heldOf (outHeld k (walkingAfter k none m))
-    held-there = (sym (made-is (p .going) rows) ∙ ap (λ (t : Walking Held). heldOf (outHeld k t)) (a .like .walks))
+    held-there : draftBy (p .going) rows ≡ stateOf (outHeld k (walkingAfter k none m))
+    held-there = (sym (made-is (p .going) rows) ∙ ap (λ (t : Walking Draft). stateOf (outHeld k t)) (a .like .walks))
 
     -- the message type is octet 1 of what is held of the header
     type-there : messageType (p .head) ≡ messageType (take 4 m)
     unfolding messageType
     type-there = a .like .head 1 (omega arith) ∙ sym (getD-take 4 m 1 0 (omega arith))
 
-    table-there : headed (messageType (p .head)) (p .kind) (held (p .going .counts) rows) ≡ headed (messageType (take 4 m)) k (heldOf (outHeld k (walkingAfter k none m)))
+    table-there : headed (messageType (p .head)) (p .kind) (draftBy (p .going) rows) ≡ headed (messageType (take 4 m)) k (stateOf (outHeld k (walkingAfter k none m)))
     table-there = rw (type-there, a .like .kind) (ap (headed (messageType (take 4 m)) k) held-there)
 
     left-is : endTable p (l .table) ≡ fedTable (feedAfter k none m) room

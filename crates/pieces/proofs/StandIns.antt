@@ -11,6 +11,7 @@ use lib.ListN.{length, getD, take, replicate}
 use Rattle.rules.specs.Framing.{octet, version, flagP, flagT, messageType, lengthField, headerLength, headOf}
 use Rattle.rules.specs.Types.{parteds, leastByType, leastOf}
 use Rattle.rules.specs.Listings.{levels, messages, book, seek, seekMessage, listing, messageOf, isMessage}
+use Rattle.rules.specs.Frames.{seen, filledBy, framesBy, framesOf, tally, exceeds}
 use Rattle.rules.specs.Standing.{isShort, markAfter, standing, marked, entered, itemOf}
 use Rattle.rules.specs.Taking.{run, walk, itemsOf, bodyLevel, taken}
 use Rattle.rules.specs.Verdicts.{accepted, refused, refusedAt, check, first, shortChecks, hasKept, levelChecks, groupChecks, lackChecks, headerChecks, framingChecks, judgeChecks, judgeVerdict}
@@ -43,15 +44,15 @@ abbrev pub cutD : List ℕ
 cutD = 0x40 ∷ 0x01 ∷ 0x00 ∷ 0x0A ∷ 0x00 ∷ 0x00 ∷ 0x01 ∷ 0x00 ∷ 0x03 ∷ 0x00 ∷ 0x01 ∷ 0x00 ∷ 0x07 ∷ 0x03 ∷ []
 
 accepts-d : judgeVerdict book 1 messageD 25 ≡ accepted
-unfolding version flagP flagT messageType lengthField headerLength headOf parteds leastByType leastOf levels messages book seek seekMessage listing messageOf isMessage isShort markAfter standing marked entered itemOf run walk itemsOf bodyLevel taken check first shortChecks hasKept levelChecks groupChecks lackChecks headerChecks framingChecks judgeChecks
+unfolding version flagP flagT messageType lengthField headerLength headOf parteds leastByType leastOf levels messages book seek seekMessage listing messageOf isMessage isShort markAfter standing marked entered itemOf run walk itemsOf bodyLevel taken check first shortChecks hasKept levelChecks groupChecks lackChecks headerChecks framingChecks judgeChecks seen filledBy framesBy framesOf tally exceeds
 accepts-d = refl
 
 refuses-short : judgeVerdict book 1 (take 12 messageD) 25 .code ≡ 6
-unfolding version flagP flagT messageType lengthField headerLength headOf parteds leastByType leastOf levels messages book seek seekMessage listing messageOf isMessage isShort markAfter standing marked entered itemOf run walk itemsOf bodyLevel taken check first shortChecks hasKept levelChecks groupChecks lackChecks headerChecks framingChecks judgeChecks
+unfolding version flagP flagT messageType lengthField headerLength headOf parteds leastByType leastOf levels messages book seek seekMessage listing messageOf isMessage isShort markAfter standing marked entered itemOf run walk itemsOf bodyLevel taken check first shortChecks hasKept levelChecks groupChecks lackChecks headerChecks framingChecks judgeChecks seen filledBy framesBy framesOf tally exceeds
 refuses-short = refl
 
 refuses-cut : judgeVerdict book 1 cutD 25 ≡ refusedAt 9 67 13 0 0
-unfolding version flagP flagT messageType lengthField headerLength headOf parteds leastByType leastOf levels messages book seek seekMessage listing messageOf isMessage isShort markAfter standing marked entered itemOf run walk itemsOf bodyLevel taken check first shortChecks hasKept levelChecks groupChecks lackChecks headerChecks framingChecks judgeChecks
+unfolding version flagP flagT messageType lengthField headerLength headOf parteds leastByType leastOf levels messages book seek seekMessage listing messageOf isMessage isShort markAfter standing marked entered itemOf run walk itemsOf bodyLevel taken check first shortChecks hasKept levelChecks groupChecks lackChecks headerChecks framingChecks judgeChecks seen filledBy framesBy framesOf tally exceeds
 refuses-cut = refl
 
 module _ {ps : List (List ℕ)} {p : Pieces} {t : List ℕ} (ran : Runs 1 25 ps p t) where

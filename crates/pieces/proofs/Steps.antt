@@ -15,10 +15,12 @@ use Rattle.rules.specs.Listings.{Book}
 use Rattle.rules.specs.Standing.{Item, fresh, itemOf, marked, entered}
 use Rattle.rules.specs.Taking.{Out, cut, whole, after, walk}
 use Rattle.rules.specs.Met.{At}
+use Rattle.rules.specs.Frames.{Frame, Element, element, framesOf, valueOf, seen}
+use Rattle.rules.specs.Late.{blind}
 use Rattle.rules.specs.declared.Head.{Head}
-use Rattle.rules.proofs.Heads.{wholeHead}
 use Rattle.pieces.specs.declared.Open.{Open}
 use Rattle.pieces.specs.Steps.{Walking, stopped, going, gathered, onward, opened, settle, proceed, takeOne, headed, gather, eat, eatAll, begin, outcome}
+use Rattle.pieces.specs.Loose.{loose}
 use Rattle.pieces.specs.Depth.{nests}
 use Rattle.pieces.proofs.Depth.{nests-in}
 use Rattle.pieces.proofs.Rests.{rest, rest-shut, rest-cut, rest-alone, rest-group, after-whole}
@@ -34,8 +36,8 @@ module _ (n : ℕ) (xs zs : List ℕ) (four : length xs ≡ 4) (room : 4 ≤ n) 
   value-there = rw (octet-there 1 (omega arith), octet-there 2 (omega arith))
 
 -- too little is left for a header
-pub remnant-cut : (zs : List ℕ) → length zs < 4 → headOf zs .whole ≡ false
-unfolding headOf
+pub remnant-cut : (zs : List ℕ) → length zs < 4 → seen zs .whole ≡ false
+unfolding seen headOf
 remnant-cut zs l = rw (lt-leb 4 (length zs) l)
 
 and-false : (a : Bool) (h : Head) → cond (a && false) h noHead .whole ≡ false
@@ -43,17 +45,24 @@ and-false true h = refl
 and-false false h = refl
 
 -- the header says more than is left
-pub long-cut : (n : ℕ) (xs zs : List ℕ) → length xs ≡ 4 → 4 ≤ n → n ≤ length (xs ++ zs) → n < 4 + valueLength xs → headOf (take n (xs ++ zs)) .whole ≡ false
-unfolding headOf
+pub long-cut : (n : ℕ) (xs zs : List ℕ) → length xs ≡ 4 → 4 ≤ n → n ≤ length (xs ++ zs) → n < 4 + valueLength xs → seen (take n (xs ++ zs)) .whole ≡ false
+unfolding seen headOf
 long-cut n xs zs four room l lt =
     let size : length (take n (xs ++ zs)) ≡ n = simp length-take (omega arith) in
     rw (value-there n xs zs four room, size, lt-leb (valueLength xs) (n - 4) (omega arith)) (and-false (leb 4 n) _)
 
+-- the element with all that stands inside it
+abbrev filled : List ℕ → Element → Element
+filled xs h = record { whole = h .whole; typ = h .typ; inst = h .inst; len = h .len; first = h .first; within = framesOf (valueOf xs) }
+
+abbrev headIn : List ℕ → List ℕ → Head
+headIn xs more = record { whole = true; typ = octet xs 0; inst = octet xs 3 % 16; len = valueLength xs; first = octet more 0 }
+
 -- the header and the first value octet
 pub head-there : (n : ℕ) (xs more ys : List ℕ) → length xs ≡ 4 → 4 + valueLength xs ≤ n → n ≤ length (xs ++ (more ++ ys))
-    → (valueLength xs ≡ 0 → length more ≡ 0) → (0 < valueLength xs → length more ≡ 1) → At (take n (xs ++ (more ++ ys))) (gathered xs more)
-unfolding headOf
-head-there n xs more ys four room l none some = record { is = is; whole = refl }
+    → (valueLength xs ≡ 0 → length more ≡ 0) → (0 < valueLength xs → length more ≡ 1) → At (take n (xs ++ (more ++ ys))) (filled (take n (xs ++ (more ++ ys))) (gathered xs more))
+unfolding seen headOf
+head-there n xs more ys four room l none some = record { is = ap (λ (h : Head). element h (framesOf (valueOf (take n (xs ++ zs))))) is; whole = refl }
   where
     zs : List ℕ
     zs = more ++ ys
@@ -77,7 +86,7 @@ head-there n xs more ys four room l none some = record { is = is; whole = refl }
     first-there true e = refl
     first-there false e = octet-4 (pos-of-ne-zero (eqb-false _ _ e))
 
-    is : headOf (take n (xs ++ zs)) ≡ gathered xs more
+    is : headOf (take n (xs ++ zs)) ≡ headIn xs more
     is =
         rw (
           size,
@@ -126,7 +135,7 @@ within-on : (b : Book) (deepest : ℕ) (f f′ : Open) (fs : List Open) → f′
 within-on b deepest f f′ fs e w = record { below = w .below; sum = w .sum; deep = (rw e (w .deep .0), w .deep .1) }
 
 -- a level that is entered: there is room for it
-module _ (b : Book) (k deepest : ℕ) (f : Open) (fs : List Open) (h : Head) (g : ℕ) (e : entered b k (f .level) (f .marks) h ≡ suc g) where
+module _ (b : Book) (k deepest : ℕ) (f : Open) (fs : List Open) (h : Element) (g : ℕ) (e : entered b k (f .level) (f .marks) h ≡ suc g) where
   within-in : (f′ : Open) → f′ .level ≡ suc g → Within b deepest (f ∷ fs) → (length (f ∷ fs) < deepest) × Within b deepest (f′ ∷ f ∷ fs)
   unfolding nests
   within-in f′ q w = go (w .below) (w .sum) (w .deep)
@@ -203,8 +212,11 @@ module _ (b : Book) (k : ℕ) (S : Type 0) (one : S → Item → S) (shut : S �
     abbrev zs : List ℕ
     zs = xs ++ (more ++ ys)
 
-    abbrev head : Head
+    abbrev head : Element
     head = gathered xs more
+
+    abbrev whole-head : Element
+    whole-head = filled (take (f .left) zs) head
 
     abbrev next : S
     next = one s (itemOf b k (f .level) (f .marks) (f .parent) at head)
@@ -216,7 +228,7 @@ module _ (b : Book) (k : ℕ) (S : Type 0) (one : S → Item → S) (shut : S �
     abbrev fewer : (length more ≤ 1) × (length more ≤ valueLength xs)
     fewer = few (eqb (valueLength xs) 0) refl
 
-    stands : At (take (f .left) zs) head
+    stands : At (take (f .left) zs) whole-head
     stands = head-there (f .left) xs more ys four room (simp (length-append, length-append) (omega arith)) none some
 
     value-past : drop (elementHeader + valueLength xs) zs ≡ drop (valueLength xs - length more) ys
@@ -228,7 +240,7 @@ module _ (b : Book) (k : ℕ) (S : Type 0) (one : S → Item → S) (shut : S �
         → Comes (settle b k S one shut number deepest (onward b k f head ∷ fs) (at + elementHeader + valueLength xs) [] (valueLength xs - length more) next) ys
         (rest b k S one shut number (f ∷ fs) at zs s)
     passes e =
-        rw (rest-alone b k S one shut number f fs at zs s head stands e, value-past)
+        rw (rest-alone b k S one shut number f fs at zs s whole-head stands e, value-past)
         (settled (onward b k f head ∷ fs) (at + elementHeader + valueLength xs) [] (valueLength xs - length more) next ys (omega arith) (λ z. refl)
         (omega (arith, fewer)) (within-on b deepest f (onward b k f head) fs refl deep))
 
@@ -239,7 +251,7 @@ module _ (b : Book) (k : ℕ) (S : Type 0) (one : S → Item → S) (shut : S �
         let w = within-in b k deepest f fs head g e (opened (suc g) (number next) at (valueLength xs)) refl deep in
         let w′ : Within b deepest (opened (suc g) (number next) at (valueLength xs) ∷ onward b k f head ∷ fs)
         = record { below = w .1 .below; sum = w .1 .sum; deep = w .1 .deep } in
-        rw (rest-group b k S one shut number f fs at zs s head stands g e, drop-at xs (more ++ ys) elementHeader four)
+        rw (rest-group b k S one shut number f fs at zs s whole-head stands g e, drop-at xs (more ++ ys) elementHeader four)
         (settled (opened (suc g) (number next) at (valueLength xs) ∷ onward b k f head ∷ fs) (at + elementHeader) more 0 next ys (fewer .0) (λ z. absurd (omega arith))
         (omega (arith, fewer)) w′)
 
@@ -338,12 +350,12 @@ module _ (b : Book) (k : ℕ) (S : Type 0) (one : S → Item → S) (shut : S �
   -- a run from its first octet on
   pub begin-is : (v at n : ℕ) (s : S) (ys : List ℕ) → n ≤ length ys → nests b deepest v ≡ true
       → outcome b k S one shut number deepest (eatAll b k S one shut number deepest (begin b k S one shut number deepest v at n s) ys)
-      ≡ walk b k S one shut number v fresh 0 0 at (take n ys) s
+      ≡ walk (loose b) k S one shut number v fresh 0 0 at (take n ys) s
   unfolding begin rest
   begin-is v at n s ys l e =
       let t = settled (opened v 0 0 n ∷ []) at [] 0 s ys (omega arith) (λ z. refl) (omega arith) (record { below = deepest; sum = omega arith; deep = (e, tt) }) in
       run-is ys (settle b k S one shut number deepest (opened v 0 0 n ∷ []) at [] 0 s) (t .good) ∙ t .same
-      ∙ after-whole (walk b k S one shut number v fresh 0 0 at (take n ys) s)
+      ∙ after-whole (walk (loose b) k S one shut number v fresh 0 0 at (take n ys) s)
 
   -- however the octets are cut
   pub cut-anywhere : (w : Walking S) (xs ys : List ℕ) → eatAll b k S one shut number deepest w (xs ++ ys) ≡ eatAll b k S one shut number deepest (eatAll b k S one shut number deepest w xs) ys

@@ -75,7 +75,7 @@ module _ (k : ℕ) (w : Going) (ready : Ready w) (none : w .have ≡ 0) (bytes :
   gathers a b c d =
       let h : w .have + 1 + 1 + 1 + 1 ≡ 4 = omega arith in
       let made : ℕ → List ℕ → Going
-      = λ n some. record { stopped = w .stopped; depth = w .depth; levels = w .levels; place = w .place; have = n; some = some; pass = w .pass; counts = w .counts } in
+      = λ n some. record { stopped = w .stopped; depth = w .depth; levels = w .levels; place = w .place; have = n; some = some; pass = w .pass; counts = w .counts; limited = w .limited; apns = w .apns; back = w .back } in
       ap (λ (n : ℕ). made n (set (set (set (set (w .some) (w .have) a) (w .have + 1) b) (w .have + 1 + 1) c) (w .have + 1 + 1 + 1) d)) h
       ∙ ap (made 4) (sets-four a b c d (w .have) (w .some) none bytes)
 
@@ -122,4 +122,4 @@ four-have w xs = refl
 
 pub four-sized : {k : ℕ} {w : Going} (part : List ℕ) → Sized k w → Sized k (gatherFour w (Four part))
 unfolding gatherFour
-four-sized part z = record { slots = z .slots; bytes = refl; deep = z .deep; have = omega arith; each = z .each; ends = z .ends; few = z .few; kind = z .kind }
+four-sized part z = record { slots = z .slots; bytes = refl; deep = z .deep; have = omega arith; each = z .each; ends = z .ends; few = z .few; owns = z .owns; spare = z .spare; kind = z .kind }

@@ -14,12 +14,13 @@ use Rattle.rules.specs.Types.{among}
 use Rattle.rules.specs.Listings.{Book, book}
 use Rattle.rules.proofs.Lines.{and-left, and-right}
 use Rattle.taking.specs.Held.{Few}
+use Rattle.taking.specs.declared.Counts.{Counts}
 use Rattle.pieces.specs.declared.Open.{Open}
 use Rattle.pieces.specs.declared.Going.{Going}
 use Rattle.pieces.specs.Depth.{deepest}
 use Rattle.pieces.specs.Coded.{noOpen, topOf}
 use Rattle.pieces.specs.Fits.{Slot, EachSlot, lefts, Sized, Waiting, Fits}
-use Rattle.pieces.specs.Answers.{slotFits, waits, walkFits}
+use Rattle.pieces.specs.Answers.{slotFits, backFits, waits, walkFits}
 use Rattle.pieces.proofs.Fits.{slot-at, left-most}
 
 both : (a b : Bool) → a ≡ true → b ≡ true → a && b ≡ true
@@ -35,6 +36,18 @@ slot-is f e =
 is-slot : (f : Open) → Slot f → f .left ≤ largestMessage → slotFits f ≡ true
 unfolding slotFits
 is-slot f s l = rw (lt-ltb (f .level) (length (book .levels)) (s .level), le-leb (f .parent) 4096 (s .parent), le-leb (f .home) 4096 (s .home), le-leb (f .left) 4096 l)
+
+back-is : (back : Counts) (rows apns : ℕ) → backFits back rows apns ≡ true → (back .rows + apns ≤ rows) × (back .kept ≤ back .rows)
+unfolding backFits
+back-is back rows apns e =
+    let r = and-right (leb (back .rows) rows) _ e in
+    let l : back .rows ≤ rows = leb-true _ _ (and-left (leb (back .rows) rows) _ e) in
+    let n : apns ≤ rows - back .rows = leb-true _ _ (and-left (leb apns (rows - back .rows)) _ r) in
+    (omega arith, leb-true _ _ (and-right (leb apns (rows - back .rows)) _ r))
+
+is-back : (back : Counts) (rows apns : ℕ) → back .rows + apns ≤ rows → back .kept ≤ back .rows → backFits back rows apns ≡ true
+unfolding backFits
+is-back back rows apns l n = rw (le-leb (back .rows) rows (omega arith), le-leb apns (rows - back .rows) (omega arith), le-leb (back .kept) (back .rows) n)
 
 module _ (k : ℕ) (w : Going) where
   waits-is : waits w ≡ true → w .stopped ≡ false → 0 < w .depth → w .have ≡ 4 → Waiting w
@@ -78,7 +91,9 @@ module _ (k : ℕ) (w : Going) where
       let e6 = and-right (leb (w .have) 4) _ e5 in
       let e7 = and-right (leb (w .counts .rows) (w .place)) _ e6 in
       let e8 = and-right (leb (w .counts .kept) (w .counts .rows)) _ e7 in
-      let e9 = and-right (cond (eqb (w .depth) 0) true (among k (book .kinds))) _ e8 in
+      let e9 = and-right (backFits (w .back) (w .counts .rows) (w .apns)) _ e8 in
+      let e10 = and-right (cond (eqb (w .depth) 0) true (among k (book .kinds))) _ e9 in
+      let b = back-is (w .back) (w .counts .rows) (w .apns) (and-left (backFits (w .back) (w .counts .rows) (w .apns)) _ e8) in
       let t = two (w .levels) l (slot-is _ (and-left s0 _ e)) (slot-is _ (and-left _ _ e1)) in
       let sum : w .place + (getD (w .levels) 0 noOpen .left + getD (w .levels) 1 noOpen .left) ≤ 4096 = leb-true _ _ (and-left _ _ e3) in
       record {
@@ -90,9 +105,11 @@ module _ (k : ℕ) (w : Going) where
           each = t .0;
           ends = omega (arith, t .1);
           few = record { kept = leb-true _ _ (and-left _ _ e7); rows = leb-true _ _ (and-left _ _ e6) };
-          kind = λ d. rw (ne-eqb (w .depth) 0 (λ z. omega arith)) at (and-left (cond (eqb (w .depth) 0) true (among k (book .kinds))) _ e8);
+          owns = b .0;
+          spare = b .1;
+          kind = λ d. rw (ne-eqb (w .depth) 0 (λ z. omega arith)) at (and-left (cond (eqb (w .depth) 0) true (among k (book .kinds))) _ e9);
         };
-        wait = waits-is e9;
+        wait = waits-is e10;
       }
 
   pub fits-test : Fits k w → walkFits k w ≡ true
@@ -111,6 +128,7 @@ module _ (k : ℕ) (w : Going) where
         le-leb (w .have) 4 (s .have),
         le-leb (w .counts .rows) (w .place) (s .few .rows),
         le-leb (w .counts .kept) (w .counts .rows) (s .few .kept),
+        is-back (w .back) (w .counts .rows) (w .apns) (s .owns) (s .spare),
         is-waits (f .wait),
       )
       (both _ true (go (eqb (w .depth) 0) refl) refl)

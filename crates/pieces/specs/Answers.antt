@@ -1,6 +1,6 @@
 -- What the start, a part and the end answer and leave, for every state: the statements that the contracts cite whole. Assumes nothing.
 use mathlib.Core.Path.{_≡_}
-use Prim.Native.Nat.{ℕ, _+_}
+use Prim.Native.Nat.{ℕ, _+_, _-_}
 use mathlib.Core.Bool.{Bool, true, false, cond, not, _&&_}
 use mathlib.Core.List.{List, [], _∷_, _++_}
 use lib.Dec.{eqb, ltb, leb}
@@ -14,6 +14,7 @@ use Rattle.rules.specs.Answers.{refusedReading}
 use Rattle.rules.specs.declared.Verdict.{Verdict}
 use Rattle.rules.specs.declared.Reading.{Reading}
 use Rattle.taking.specs.Held.{noCounts}
+use Rattle.taking.specs.declared.Counts.{Counts}
 use Rattle.reading.specs.Scan.{wholeReading}
 use Rattle.judging.specs.Judging.{given}
 use Rattle.pieces.specs.declared.Open.{Open}
@@ -28,6 +29,10 @@ use Rattle.pieces.specs.Coded.{noOpen, topOf, idleBy, FedPieces, feedAll
 
 unfoldable pub slotFits : Open → Bool
 slotFits f = ltb (f .level) (length (book .levels)) && (leb (f .parent) largestMessage && (leb (f .home) largestMessage && leb (f .left) largestMessage))
+
+-- the counts to go back to are some of those there are, and the APNs have a row each
+unfoldable pub backFits : Counts → ℕ → ℕ → Bool
+backFits back rows apns = leb (back .rows) rows && (leb apns (rows - back .rows) && leb (back .kept) (back .rows))
 
 -- a header that is gathered whole is of an element that lies in its level and is not empty
 unfoldable pub waits : Going → Bool
@@ -47,8 +52,9 @@ walkFits k w =
     && (leb (w .have) 4
     && (leb (w .counts .rows) (w .place)
     && (leb (w .counts .kept) (w .counts .rows)
+    && (backFits (w .back) (w .counts .rows) (w .apns)
     && (cond (eqb (w .depth) 0) true (among k (book .kinds))
-    && waits w))))))))
+    && waits w)))))))))
 
 -- 17: it has ended, or the table has not the length that it began with
 unfoldable pub takes : Pieces → ℕ → Bool

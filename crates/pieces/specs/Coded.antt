@@ -11,6 +11,7 @@ use Rattle.rules.specs.Listings.{book}
 use Rattle.rules.specs.Standing.{fresh, itemOf, entered}
 use Rattle.rules.specs.Taking.{bodyLevel}
 use Rattle.rules.specs.Verdicts.{openingChecks, accepted, refused, refusedAt, refuses, first}
+use Rattle.rules.specs.Frames.{Element, element}
 use Rattle.rules.specs.declared.Head.{Head}
 use Rattle.rules.specs.declared.Verdict.{Verdict}
 use Rattle.taking.specs.Lacks.{lackOf}
@@ -22,6 +23,8 @@ use Rattle.pieces.specs.declared.Going.{Going}
 use Rattle.pieces.specs.declared.Pieces.{Pieces}
 use Rattle.pieces.specs.declared.Walked.{Walked}
 use Rattle.pieces.specs.Depth.{deepest}
+use Rattle.taking.specs.Frames.{apnsOf}
+use Rattle.pieces.specs.Drafts.{limitedLevel, backTo, Draft, draft, backBy, isCrowded}
 use Rattle.pieces.specs.Steps.{onward, opened}
 use Rattle.pieces.specs.Feeding.{countOn, zeros}
 
@@ -40,20 +43,24 @@ topOf w = getD (w .levels) (w .depth - 1) noOpen
 -- ---- closing levels
 
 unfoldable pub withDepth : Going → ℕ → Counts → Going
-withDepth w n c = record { stopped = w .stopped; depth = n; levels = w .levels; place = w .place; have = w .have; some = w .some; pass = w .pass; counts = c }
+withDepth w n c = record { stopped = w .stopped; depth = n; levels = w .levels; place = w .place; have = w .have; some = w .some; pass = w .pass; counts = c; limited = false; apns = 0; back = noCounts }
 
 unfoldable pub withHave : Going → ℕ → Going
-withHave w n = record { stopped = w .stopped; depth = w .depth; levels = w .levels; place = w .place; have = n; some = w .some; pass = w .pass; counts = w .counts }
+withHave w n = record { stopped = w .stopped; depth = w .depth; levels = w .levels; place = w .place; have = n; some = w .some; pass = w .pass; counts = w .counts; limited = w .limited; apns = w .apns; back = w .back }
 
 unfoldable pub stop : Going → Going
-stop w = record { stopped = true; depth = w .depth; levels = w .levels; place = w .place; have = w .have; some = w .some; pass = w .pass; counts = w .counts }
+stop w = record { stopped = true; depth = w .depth; levels = w .levels; place = w .place; have = w .have; some = w .some; pass = w .pass; counts = w .counts; limited = w .limited; apns = w .apns; back = w .back }
+
+-- the counts at its end, or those before the group if it held too much
+abbrev pub closedBy : ℕ → Going → Counts
+closedBy k w = cond (isCrowded (w .limited) (w .apns)) (w .back) (closed (w .counts) (lackOf book k (topOf w .level) (topOf w .marks) (topOf w .home)))
 
 -- the innermost level is closed if it has nothing left
 unfoldable pub closeTop : ℕ → Going → Going
 closeTop k w =
     cond (eqb (w .depth) 0) w
     (cond (eqb (topOf w .left) 0)
-    (withDepth w (w .depth - 1) (closed (w .counts) (lackOf book k (topOf w .level) (topOf w .marks) (topOf w .home))))
+    (withDepth w (w .depth - 1) (closedBy k w))
     w)
 
 unfoldable pub closeTops : ℕ → ℕ → Going → Going
@@ -82,6 +89,9 @@ beyond w on len came c = record {
   some = w .some;
   pass = len - came;
   counts = c;
+  limited = w .limited;
+  apns = w .apns;
+  back = w .back;
 }
 
 unfoldable pub into : Going → Open → ℕ → ℕ → ℕ → ℕ → Counts → Going
@@ -94,6 +104,9 @@ into w on inner len x came c = record {
   some = set (w .some) 0 x;
   pass = 0;
   counts = c;
+  limited = w .limited;
+  apns = w .apns;
+  back = w .back;
 }
 
 -- beyond an element or into it: as deep as the listings go, and no deeper
@@ -101,6 +114,26 @@ abbrev pub placedBy : Going → Open → ℕ → ℕ → ℕ → ℕ → Counts 
 placedBy w on inner len x came c =
     cond (eqb inner 0) (beyond w on len came c)
     (cond (ltb (w .depth) deepest) (into w on inner len x came c) (beyond w on len came c))
+
+unfoldable pub withWatch : Going → Bool → ℕ → Counts → Going
+withWatch w limited n back = record {
+  stopped = w .stopped;
+  depth = w .depth;
+  levels = w .levels;
+  place = w .place;
+  have = w .have;
+  some = w .some;
+  pass = w .pass;
+  counts = w .counts;
+  limited = limited;
+  apns = n;
+  back = back;
+}
+
+-- an element that is entered is watched or not; of another, n is 1 if it is an APN
+unfoldable pub watchedBy : Going → ℕ → Bool → ℕ → Counts → Going
+watchedBy w inner limited n c =
+    cond (eqb inner 0) (withWatch w (w .limited) (w .apns + n) (w .back)) (withWatch w limited 0 (backBy (w .counts) c))
 
 -- counts that an element is counted from by itself, and the counts with those of one element
 abbrev pub aloneBy : Counts → Counts
@@ -125,6 +158,9 @@ gatherBy w x = record {
   some = set (w .some) (w .have) x;
   pass = w .pass;
   counts = w .counts;
+  limited = w .limited;
+  apns = w .apns;
+  back = w .back;
 }
 
 -- four at once
@@ -138,17 +174,20 @@ gatherFour w four = record {
   some = four;
   pass = w .pass;
   counts = w .counts;
+  limited = w .limited;
+  apns = w .apns;
+  back = w .back;
 }
 
 -- so many octets of a value are passed over
 unfoldable pub passBy : Going → ℕ → Going
-passBy w n = record { stopped = w .stopped; depth = w .depth; levels = w .levels; place = w .place; have = w .have; some = w .some; pass = w .pass - n; counts = w .counts }
+passBy w n = record { stopped = w .stopped; depth = w .depth; levels = w .levels; place = w .place; have = w .have; some = w .some; pass = w .pass - n; counts = w .counts; limited = w .limited; apns = w .apns; back = w .back }
 
 unfoldable pub passOne : Going → Going
-passOne w = record { stopped = w .stopped; depth = w .depth; levels = w .levels; place = w .place; have = w .have; some = w .some; pass = w .pass - 1; counts = w .counts }
+passOne w = record { stopped = w .stopped; depth = w .depth; levels = w .levels; place = w .place; have = w .have; some = w .some; pass = w .pass - 1; counts = w .counts; limited = w .limited; apns = w .apns; back = w .back }
 
 unfoldable pub idleBy : Counts → Going
-idleBy c = record { stopped = false; depth = 0; levels = blankOpen ∷ blankOpen ∷ []; place = 0; have = 0; some = replicate 4 0; pass = 0; counts = c }
+idleBy c = record { stopped = false; depth = 0; levels = blankOpen ∷ blankOpen ∷ []; place = 0; have = 0; some = replicate 4 0; pass = 0; counts = c; limited = false; apns = 0; back = noCounts }
 
 -- a body that begins, before its levels are looked at
 unfoldable pub entryBy : List ℕ → Going
@@ -161,10 +200,14 @@ entryBy h = record {
   some = replicate 4 0;
   pass = 0;
   counts = noCounts;
+  limited = false;
+  apns = 0;
+  back = noCounts;
 }
 
-abbrev pub rowIf : Bool → List ℕ → ℕ → List ℕ → List ℕ
-rowIf wrote rows n row = cond wrote (rowPut rows n row) rows
+-- where an element was taken its row is put at n, and what goes back with it is taken back: m rows there are then
+abbrev pub rowIf : Bool → List ℕ → ℕ → List ℕ → ℕ → List ℕ
+rowIf wrote rows n row m = cond wrote (backTo m (n + 1) (rowPut rows n row)) rows
 
 -- so many more octets were taken before
 abbrev pub furtherBy : Walked → ℕ → Walked
@@ -178,24 +221,38 @@ pub record Fed : Type 0 where
 abbrev pub fedWith : Going → List ℕ → Fed
 fedWith w rows = record { going = w; rows = rows }
 
+-- what is held, with the lent rows
+abbrev pub draftBy : Going → List ℕ → Draft
+draftBy w rows = draft (w .counts) rows (w .limited) (w .apns) (w .back)
+
 module _ (k : ℕ) where
-  -- what is made of the element with head h at the innermost level
-  abbrev pub nextHeld : Going → Head → List ℕ → Held
+  -- what is made of the element h at the innermost level, before what stands inside it has come
+  abbrev pub nextHeld : Going → Element → List ℕ → Held
   nextHeld w h rows = one (held (w .counts) rows) (itemOf book k (topOf w .level) (topOf w .marks) (topOf w .parent) (w .place) h)
 
-  abbrev pub enters : Going → Head → ℕ
+  abbrev pub enters : Going → Element → ℕ
   enters w h = entered book k (topOf w .level) (topOf w .marks) h
 
-  abbrev pub nextOpen : Going → Head → Open
+  abbrev pub nextOpen : Going → Element → Open
   nextOpen w h = onward book k (topOf w) h
 
+  abbrev pub watched : Going → Element → Counts → Going
+  watched w h c = watchedBy w (enters w h) (limitedLevel (enters w h)) (apnsOf (h .typ) (h .inst)) c
+
   -- its first value octet x has come, or none of it
-  unfoldable pub placed : Going → Head → ℕ → ℕ → Counts → Going
-  placed w h x came c = placedBy w (nextOpen w h) (enters w h) (h .len) x came c
+  unfoldable pub placed : Going → Element → ℕ → ℕ → Counts → Going
+  placed w h x came c = placedBy (watched w h c) (nextOpen w h) (enters w h) (h .len) x came c
+
+  abbrev pub headOn : Going → ℕ → Element
+  headOn w x = element (headBy (w .some) x) []
+
+  unfoldable pub takenBy : Going → ℕ → ℕ → Counts → Going
+  takenBy w x came c = settleTop k (placed w (headOn w x) x came c)
 
   unfoldable pub takeBy : Going → ℕ → ℕ → List ℕ → Fed
   takeBy w x came rows =
-      fedWith (settleTop k (placed w (headBy (w .some) x) x came (nextHeld w (headBy (w .some) x) rows .counts))) (nextHeld w (headBy (w .some) x) rows .rows)
+      fedWith (takenBy w x came (nextHeld w (headOn w x) rows .counts))
+      (backTo (takenBy w x came (nextHeld w (headOn w x) rows .counts) .counts .rows) (nextHeld w (headOn w x) rows .counts .rows) (nextHeld w (headOn w x) rows .rows))
 
   -- ---- one octet
 

@@ -10,10 +10,12 @@ use Rattle.rules.specs.Framing.{elementHeader, valueLength, messageType, length
 use Rattle.rules.specs.Listings.{book, isMessage}
 use Rattle.listings.specs.Data.{numbersOf}
 use Rattle.taking.specs.declared.Counts.{Counts}
+use Rattle.pieces.specs.declared.Open.{Open}
 use Rattle.pieces.specs.declared.Going.{Going}
 use Rattle.pieces.specs.declared.Pieces.{Pieces}
 use Rattle.pieces.specs.declared.Walked.{Walked}
 use Rattle.pieces.specs.declared.Stride.{Stride}
+use Rattle.pieces.specs.Depth.{deepest}
 use Rattle.pieces.specs.Coded.{topOf, rowIf, Fed, FedPieces, headedBy, eatAllBy, feedAllBy}
 use Rattle.pieces.specs.Fits.{Sized, Fits}
 use Rattle.pieces.specs.Answers.{takes}
@@ -25,14 +27,25 @@ pub record Closing (k : ℕ) (xs : List ℕ) (w : Going) : Type 0 where
   pub numbers : xs ≡ numbersOf book
   pub sized : Sized k w
 
+-- f is the innermost level
+pub record ClosingOf (k : ℕ) (xs : List ℕ) (w : Going) (f : Open) : Type 0 where
+  pub closing : Closing k xs w
+  pub inside : 0 < w .depth
+  pub top : f ≡ topOf w
+
 -- an element of so many value octets stands at the place, in the innermost level, and `came` of them have come
-pub record Placing (k : ℕ) (w : Going) (len came : ℕ) : Type 0 where
-  pub sized : Sized k w
+pub record Placing (w : Going) (len came : ℕ) : Type 0 where
+  pub deep : w .depth ≤ deepest
   pub inside : 0 < w .depth
   pub came-of : came ≤ len
   pub ends : w .place + 4 + len ≤ largestMessage
 
 -- ---- one element
+
+-- one APN more, or none
+pub record Watching (w : Going) (n : ℕ) : Type 0 where
+  pub apns : w .apns ≤ largestMessage
+  pub one : n ≤ 1
 
 -- one element is counted with the others
 pub record Adds (c e : Counts) : Type 0 where
@@ -51,10 +64,10 @@ pub record Taking (k : ℕ) (xs : List ℕ) (w : Going) (came : ℕ) (row : List
   pub came-of : came ≤ valueLength (w .some)
   pub long : length row ≡ rowNumbers
 
--- whatever rows are lent, f leaves r of the walk; and of the rows themselves, or with one more at n
+-- whatever rows are lent, f leaves r of the walk; and the rows themselves, or with one more at n, but for what goes back with it
 pub record Wrote (r : Going) (wrote : Bool) (row : List ℕ) (n : ℕ) (f : List ℕ → Fed) : Type 0 where
   pub going : (rows : List ℕ) → f rows .going ≡ r
-  pub rows-left : (rows : List ℕ) → f rows .rows ≡ rowIf wrote rows n row
+  pub rows-left : (rows : List ℕ) → f rows .rows ≡ rowIf wrote rows n row (r .counts .rows)
   pub long : length row ≡ rowNumbers
 
 -- nothing is passed over, and a level is open
@@ -131,12 +144,12 @@ pub record Striding (xs : List ℕ) (p : Pieces) (part row : List ℕ) : Type 0 
   pub some : 0 < length part
   pub long : length row ≡ rowNumbers
 
--- whatever rows are lent, the first `taken` octets leave this state, and one row more where `wrote` says so
+-- whatever rows are lent, the first `taken` octets leave this state, and one row more where `wrote` says so, but for what goes back with it
 pub record StrodeAll (p : Pieces) (part : List ℕ) (r : Stride) (row : List ℕ) : Type 0 where
   pub least : 0 < r .taken
   pub most : r .taken ≤ length part
   pub state : (rows : List ℕ) → feedAllBy p (take (r .taken) part) rows .state ≡ r .state
-  pub rows-left : (rows : List ℕ) → feedAllBy p (take (r .taken) part) rows .rows ≡ rowIf (r .wrote) rows (p .going .counts .rows) row
+  pub rows-left : (rows : List ℕ) → feedAllBy p (take (r .taken) part) rows .rows ≡ rowIf (r .wrote) rows (p .going .counts .rows) row (r .state .going .counts .rows)
   pub long : length row ≡ rowNumbers
 
 -- r of n octets are only counted: in the header after its fourth and before its last, or where nothing is walked; if none is, an octet of the header comes, or the walk goes on

@@ -13,12 +13,13 @@ use Rattle.rules.specs.Verdicts.{openingChecks, refused, refusedAt, invalidLeng
 use Rattle.rules.specs.Answers.{refusedReading}
 use Rattle.rules.specs.declared.Verdict.{Verdict}
 use Rattle.rules.specs.declared.Reading.{Reading}
-use Rattle.taking.specs.Held.{Held, held, one, noCounts}
-use Rattle.reading.specs.Scan.{shut, number, wholeReading, heldOf}
+use Rattle.taking.specs.Held.{noCounts}
+use Rattle.reading.specs.Scan.{wholeReading}
 use Rattle.judging.specs.Judging.{given}
 use Rattle.pieces.specs.declared.Open.{Open}
 use Rattle.pieces.specs.Steps.{Walking, stopped, going, eat, begin, outcome}
 use Rattle.pieces.specs.Depth.{deepest}
+use Rattle.pieces.specs.Drafts.{Draft, plain, oneDraft, shutDraft, draftRows}
 
 -- the octets of a message's start that are held
 abbrev pub headOctets : ℕ
@@ -33,35 +34,40 @@ pub record Feed : Type 0 where
   pub kind : ℕ
   pub head : List ℕ
   pub count : ℕ
-  pub walking : Walking Held
+  pub walking : Walking Draft
+
+-- what is held at an outcome
+abbrev pub stateOf : {S : Type 0} → Out S → S
+stateOf (cut q s) = s
+stateOf (whole s) = s
 
 module _ (k : ℕ) where
-  abbrev pub eatHeld : Walking Held → ℕ → Walking Held
-  eatHeld = eat book k Held one (shut k) number deepest
+  abbrev pub eatHeld : Walking Draft → ℕ → Walking Draft
+  eatHeld = eat book k Draft oneDraft (shutDraft k) draftRows deepest
 
-  abbrev pub outHeld : Walking Held → Out Held
-  outHeld = outcome book k Held one (shut k) number deepest
+  abbrev pub outHeld : Walking Draft → Out Draft
+  outHeld = outcome book k Draft oneDraft (shutDraft k) draftRows deepest
 
   -- nothing is walked
-  abbrev pub idle : Held → Walking Held
+  abbrev pub idle : Draft → Walking Draft
   idle s = going [] 0 [] 0 s
 
   -- the elements begin, if the message will pass checks 1 to 8 with the length that its header says
-  unfoldable pub body : List ℕ → Held → Walking Held
+  unfoldable pub body : List ℕ → Draft → Walking Draft
   body h s =
       cond (refuses (first (openingChecks book k h (lengthField h + 4)))) (idle s)
-      (begin book k Held one (shut k) number deepest (bodyLevel book h) (headerLength h) (lengthField h + 4 - headerLength h) s)
+      (begin book k Draft oneDraft (shutDraft k) draftRows deepest (bodyLevel book h) (headerLength h) (lengthField h + 4 - headerLength h) s)
 
 -- one more octet of the header
 unfoldable pub headOn : List ℕ → ℕ → ℕ → List ℕ
 headOn h n x = cond (ltb n headOctets) (h ++ (x ∷ [])) h
 
-unfoldable pub inHeader : ℕ → List ℕ → ℕ → Walking Held → Feed
+unfoldable pub inHeader : ℕ → List ℕ → ℕ → Walking Draft → Feed
 inHeader k h n w = record {
   kind = k;
   head = h;
   count = n;
-  walking = cond (eqb n (headerLength h)) (body k h (heldOf (outHeld k w))) w;
+  walking = cond (eqb n (headerLength h)) (body k h (stateOf (outHeld k w))) w;
 }
 
 unfoldable pub feed : Feed → ℕ → Feed
@@ -91,11 +97,11 @@ zeros room = replicate room 0
 
 -- with a table, whose rows stand after its header
 unfoldable pub started : ℕ → List ℕ → Feed
-started k table = record { kind = k; head = []; count = 0; walking = idle k (held noCounts (drop headerNumbers table)) }
+started k table = record { kind = k; head = []; count = 0; walking = idle k (plain noCounts (drop headerNumbers table)) }
 
 -- ---- the end
 
-unfoldable pub outReading : Out Held → Reading
+unfoldable pub outReading : Out Draft → Reading
 outReading (cut q s) = refusedReading (refusedAt 9 67 q 0 0)
 outReading (whole s) = wholeReading (s .counts)
 
@@ -109,8 +115,8 @@ abbrev pub fedVerdict : Feed → ℕ → Verdict
 fedVerdict f room = given (fedReading f) room
 
 -- rows, kept rows, place of the first row, numbers used, message type, kind; then the rows
-abbrev pub headed : ℕ → ℕ → Held → List ℕ
+abbrev pub headed : ℕ → ℕ → Draft → List ℕ
 headed typ k s = s .counts .rows ∷ s .counts .kept ∷ headerNumbers ∷ used (s .counts .rows) ∷ typ ∷ k ∷ s .rows
 
 unfoldable pub fedTable : Feed → ℕ → List ℕ
-fedTable f room = cond (refuses (fedVerdict f room)) (zeros room) (headed (messageType (f .head)) (f .kind) (heldOf (outHeld (f .kind) (f .walking))))
+fedTable f room = cond (refuses (fedVerdict f room)) (zeros room) (headed (messageType (f .head)) (f .kind) (stateOf (outHeld (f .kind) (f .walking))))

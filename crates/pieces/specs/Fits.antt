@@ -37,6 +37,8 @@ pub record Sized (k : ℕ) (w : Going) : Type 0 where
   pub each : EachSlot (w .levels)
   pub ends : w .place + lefts (w .levels) ≤ largestMessage
   pub few : Few (w .counts) (w .place)
+  pub owns : w .back .rows + w .apns ≤ w .counts .rows
+  pub spare : w .back .kept ≤ w .back .rows
   pub kind : 0 < w .depth → among k (book .kinds) ≡ true
 
 -- a header is whole, and its value is not empty and lies in what its level has left

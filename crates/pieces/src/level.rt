@@ -1,16 +1,16 @@
 // The open levels: closing those with nothing left, and what an element leaves of the innermost.
 ghost use mathlib.Core.Path.{_≡_};
 ghost use Prim.Native.Nat.{_+_, _≤_, _<_};
-ghost use Rattle.pieces.specs.Coded.{withDepth, withHave, stop, closeTop, checkTop, settleTop, headBy, beyond, into, placedBy};
+ghost use Rattle.pieces.specs.Coded.{withDepth, withHave, stop, closedBy, closeTop, checkTop, settleTop, headBy, beyond, into, placedBy};
 ghost use Rattle.pieces.specs.Fits.{Sized};
-ghost use Rattle.pieces.specs.Contracts.{Closing, Placing};
+ghost use Rattle.pieces.specs.Contracts.{Closing, ClosingOf, Placing};
 use crate::Going;
 use crate::Open;
 use rules::Head;
 use taking::Counts;
 use taking::wide;
 
-// The same with other counts and so many levels open.
+// The same with other counts and so many levels open, of which none is watched.
 pub(crate) fn with_depth(w: Going, depth: usize, counts: Counts) -> Going
     ensures { λ r. ⌜ r ≡ withDepth w depth counts ⌝ }
 {
@@ -25,7 +25,23 @@ pub(crate) fn with_depth(w: Going, depth: usize, counts: Counts) -> Going
         some,
         pass: w.pass,
         counts,
+        limited: false,
+        apns: 0,
+        back: taking::no_counts(),
     }
+}
+
+// The counts at the end of the innermost level, or those before its group if it held too much.
+pub(crate) fn closed(kind: u32, numbers: &[u32], w: Going, f: Open) -> Counts
+    requires { ⌜ ClosingOf kind (now numbers) w f ⌝ }
+    ensures { λ r. ⌜ r ≡ closedBy kind w ⌝ }
+{
+    if w.limited && 10 < w.apns {
+        return w.back;
+    }
+    let lines = taking::line::of_level(numbers, f.level);
+    let marks = f.marks;
+    taking::level::close_level(kind, f.level, lines, &marks, f.home, w.counts)
 }
 
 // The innermost level is closed if it has nothing left.
@@ -41,10 +57,7 @@ pub(crate) fn close_top(kind: u32, numbers: &[u32], w: Going) -> Going
     if f.left != 0 {
         return w;
     }
-    let lines = taking::line::of_level(numbers, f.level);
-    let marks = f.marks;
-    let counts = taking::level::close_level(kind, f.level, lines, &marks, f.home, w.counts);
-    with_depth(w, top, counts)
+    with_depth(w, top, closed(kind, numbers, w, f))
 }
 
 // Cut at the place.
@@ -54,6 +67,7 @@ pub(crate) fn stop(w: Going) -> Going
     let levels = w.levels;
     let some = w.some;
     let counts = w.counts;
+    let back = w.back;
     Going {
         stopped: true,
         depth: w.depth,
@@ -63,6 +77,9 @@ pub(crate) fn stop(w: Going) -> Going
         some,
         pass: w.pass,
         counts,
+        limited: w.limited,
+        apns: w.apns,
+        back,
     }
 }
 
@@ -73,6 +90,7 @@ pub(crate) fn with_have(w: Going, have: usize) -> Going
     let levels = w.levels;
     let some = w.some;
     let counts = w.counts;
+    let back = w.back;
     Going {
         stopped: w.stopped,
         depth: w.depth,
@@ -82,6 +100,9 @@ pub(crate) fn with_have(w: Going, have: usize) -> Going
         some,
         pass: w.pass,
         counts,
+        limited: w.limited,
+        apns: w.apns,
+        back,
     }
 }
 
@@ -125,21 +146,15 @@ pub(crate) fn head_of(some: &[u8; 4], first: u8) -> Head
 }
 
 // After an element that is not entered: its value is passed over, `came` octets of which have come.
-pub(crate) fn beyond(
-    kind: u32,
-    w: Going,
-    on: Open,
-    len: usize,
-    came: usize,
-    counts: Counts,
-) -> Going
-    requires { ⌜ Placing kind w len came ⌝ }
+pub(crate) fn beyond(w: Going, on: Open, len: usize, came: usize, counts: Counts) -> Going
+    requires { ⌜ Placing w len came ⌝ }
     ensures { λ r. ⌜ r ≡ beyond w on len came counts ⌝ }
 {
     let top = w.depth - 1;
     let mut levels = w.levels;
     levels[top] = on;
     let some = w.some;
+    let back = w.back;
     Going {
         stopped: false,
         depth: w.depth,
@@ -149,12 +164,14 @@ pub(crate) fn beyond(
         some,
         pass: len - came,
         counts,
+        limited: w.limited,
+        apns: w.apns,
+        back,
     }
 }
 
 // Into a group: its level is open, and the first value octet, if it has come, is the first that is gathered there.
 pub(crate) fn into(
-    kind: u32,
     w: Going,
     on: Open,
     inner: u8,
@@ -163,7 +180,7 @@ pub(crate) fn into(
     came: usize,
     counts: Counts,
 ) -> Going
-    requires { ⌜ (Placing kind w len came) × (w .depth < 2) ⌝ }
+    requires { ⌜ (Placing w len came) × (w .depth < 2) ⌝ }
     ensures { λ r. ⌜ r ≡ into w on inner len first came counts ⌝ }
 {
     let depth = w.depth;
@@ -179,6 +196,7 @@ pub(crate) fn into(
     };
     let mut some = w.some;
     some[0] = first;
+    let back = w.back;
     Going {
         stopped: false,
         depth: depth + 1,
@@ -188,12 +206,14 @@ pub(crate) fn into(
         some,
         pass: 0,
         counts,
+        limited: w.limited,
+        apns: w.apns,
+        back,
     }
 }
 
 // Beyond an element or into it: as deep as the listings go, and no deeper.
 pub(crate) fn place(
-    kind: u32,
     w: Going,
     on: Open,
     inner: u8,
@@ -202,14 +222,14 @@ pub(crate) fn place(
     came: usize,
     counts: Counts,
 ) -> Going
-    requires { ⌜ Placing kind w len came ⌝ }
+    requires { ⌜ Placing w len came ⌝ }
     ensures { λ r. ⌜ r ≡ placedBy w on inner len first came counts ⌝ }
 {
     if inner == 0 {
-        return beyond(kind, w, on, len, came, counts);
+        return beyond(w, on, len, came, counts);
     }
     if w.depth < 2 {
-        return into(kind, w, on, inner, len, first, came, counts);
+        return into(w, on, inner, len, first, came, counts);
     }
-    beyond(kind, w, on, len, came, counts)
+    beyond(w, on, len, came, counts)
 }

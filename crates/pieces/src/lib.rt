@@ -1,8 +1,10 @@
 // Octets as the ring hands them over: a form of the judge that is fed parts of a message and then told the end.
 ghost use mathlib.Core.Path.{_≡_};
+ghost use Prim.Native.Nat.{_-_, _≤_};
 ghost use lib.ListN.{length};
 ghost use Rattle.taking.specs.Held.{noCounts};
 ghost use Rattle.pieces.specs.Feeding.{zeros};
+ghost use Rattle.pieces.specs.Drafts.{blanks, standVoid, backTo};
 ghost use Rattle.pieces.specs.Coded.{blankOpen, idleBy, feedAllBy, rowIf};
 ghost use Rattle.pieces.specs.Answers.{startOf, toldOut, endedBy, verdictBy, Started, Parted, Ended};
 ghost use Rattle.pieces.specs.Contracts.{FitsAll, From, GaveAll, Rowed};
@@ -25,7 +27,8 @@ pub struct Open {
 }
 
 // What is held of the elements: cut at `place`; or `depth` levels are open, the next element begins at `place`, `have` octets of its
-// header are in `some`, and `pass` octets are passed over before it.
+// header are in `some`, and `pass` octets are passed over before it. The innermost level may be `limited`: it has held `apns` so far, and if they
+// are too many the counts go `back` to what they are without its inside.
 pub struct Going {
     pub stopped: bool,
     pub depth: usize,
@@ -35,6 +38,9 @@ pub struct Going {
     pub some: [u8; 4],
     pub pass: usize,
     pub counts: Counts,
+    pub limited: bool,
+    pub apns: usize,
+    pub back: Counts,
 }
 
 // What is held between two parts: no octet of the message but the first four, and those of a header that is not whole.
@@ -92,6 +98,9 @@ pub(crate) fn idle() -> Going
         some: [0; 4],
         pass: 0,
         counts: taking::no_counts(),
+        limited: false,
+        apns: 0,
+        back: taking::no_counts(),
     }
 }
 
@@ -138,13 +147,51 @@ pub(crate) fn rows_from(room: usize) -> usize
     6
 }
 
-// A row's six numbers, if there is a row.
-pub(crate) fn write_row(rows: &mut [u16], wrote: bool, n: usize, row: &[u16])
+// Rows m to e, without the last, are zero again.
+pub(crate) fn blank(rows: &mut [u16], m: usize, e: usize)
+    requires { ⌜ e ≤ 4097 ⌝ }
+    ensures { λ _. ⌜ now (rows .exit) ≡ blanks (now (rows .entry)) m (e - m) ⌝ }
+{
+    let mut j = e;
+    while m < j {
+        j -= 1;
+        taking::element::put_row(rows, j, 0, 0, 0, 0, 0, 0);
+    }
+}
+
+// Row number m, counted from 1, is that of a void group.
+pub(crate) fn stand_void(rows: &mut [u16], m: usize)
+    requires { ⌜ m ≤ 4097 ⌝ }
+    ensures { λ _. ⌜ now (rows .exit) ≡ standVoid (now (rows .entry)) m ⌝ }
+{
+    if m == 0 {
+        return;
+    }
+    let at = 6 * m - 1;
+    if at < rows.len() {
+        rows[at] = 4;
+    }
+}
+
+// Where e rows were made and only m there are, the others go back, and the last that stays is void.
+pub(crate) fn take_back(rows: &mut [u16], m: usize, e: usize)
+    requires { ⌜ e ≤ 4097 ⌝ }
+    ensures { λ _. ⌜ now (rows .exit) ≡ backTo m e (now (rows .entry)) ⌝ }
+{
+    if m < e {
+        blank(rows, m, e);
+        stand_void(rows, m);
+    }
+}
+
+// A row's six numbers, if there is a row; then m rows there are.
+pub(crate) fn write_row(rows: &mut [u16], wrote: bool, n: usize, row: &[u16], m: usize)
     requires { ⌜ Rowed n (now row) ⌝ }
-    ensures { λ _. ⌜ now (rows .exit) ≡ rowIf wrote (now (rows .entry)) n (now (row .entry)) ⌝ }
+    ensures { λ _. ⌜ now (rows .exit) ≡ rowIf wrote (now (rows .entry)) n (now (row .entry)) m ⌝ }
 {
     if wrote {
         taking::element::put_row(rows, n, row[0], row[1], row[2], row[3], row[4], row[5]);
+        take_back(rows, m, n + 1);
     }
 }
 
@@ -160,7 +207,7 @@ pub(crate) fn feed_all(p: Pieces, part: &[u8], rows: &mut [u16]) -> Pieces
     while i < part.len() {
         let n = pace::rows(q);
         let s = pace::next(&numbers, q, &part[i..], &mut row);
-        write_row(rows, s.wrote, n, &row);
+        write_row(rows, s.wrote, n, &row, pace::rows(s.state));
         q = s.state;
         i += s.taken;
     }

@@ -34,6 +34,9 @@ pub(crate) fn entry(head: &[u8; 4], n: usize) -> Going
         some: [0; 4],
         pass: 0,
         counts: taking::no_counts(),
+        limited: false,
+        apns: 0,
+        back: taking::no_counts(),
     }
 }
 

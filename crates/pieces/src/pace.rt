@@ -37,6 +37,7 @@ pub(crate) fn pass(w: Going, n: usize) -> Going
     let levels = w.levels;
     let some = w.some;
     let counts = w.counts;
+    let back = w.back;
     Going {
         stopped: w.stopped,
         depth: w.depth,
@@ -46,6 +47,9 @@ pub(crate) fn pass(w: Going, n: usize) -> Going
         some,
         pass: w.pass - n,
         counts,
+        limited: w.limited,
+        apns: w.apns,
+        back,
     }
 }
 
@@ -56,6 +60,7 @@ pub(crate) fn gather_four(w: Going, part: &[u8]) -> Going
 {
     let levels = w.levels;
     let counts = w.counts;
+    let back = w.back;
     Going {
         stopped: w.stopped,
         depth: w.depth,
@@ -65,6 +70,9 @@ pub(crate) fn gather_four(w: Going, part: &[u8]) -> Going
         some: [part[0], part[1], part[2], part[3]],
         pass: w.pass,
         counts,
+        limited: w.limited,
+        apns: w.apns,
+        back,
     }
 }
 

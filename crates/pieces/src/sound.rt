@@ -6,11 +6,12 @@ ghost use lib.Dec.{eqb};
 ghost use lib.ListN.{length};
 ghost use Rattle.rules.specs.Types.{among};
 ghost use Rattle.rules.specs.Listings.{book};
-ghost use Rattle.pieces.specs.Answers.{slotFits, waits, walkFits};
+ghost use Rattle.pieces.specs.Answers.{slotFits, backFits, waits, walkFits};
 ghost use Rattle.pieces.specs.Contracts.{Readied};
 use crate::Going;
 use crate::Open;
 use crate::Pieces;
+use taking::Counts;
 use taking::wide;
 
 // A level that a start over one table can have opened.
@@ -63,6 +64,19 @@ pub(crate) fn fits_kind(kind: u32, depth: usize) -> bool
     heading::known(kind)
 }
 
+// The counts to go back to are some of those there are, and the APNs have a row each.
+pub(crate) fn fits_back(back: Counts, rows: usize, apns: usize) -> bool
+    ensures { λ r. ⌜ r ≡ backFits back rows apns ⌝ }
+{
+    if rows < back.rows {
+        return false;
+    }
+    if rows - back.rows < apns {
+        return false;
+    }
+    back.kept <= back.rows
+}
+
 // Numbers that a start over one table can have come to: what the sums and the marks need.
 pub(crate) fn fits(kind: u32, w: Going) -> bool
     ensures { λ r. ⌜ r ≡ walkFits kind w ⌝ }
@@ -92,6 +106,9 @@ pub(crate) fn fits(kind: u32, w: Going) -> bool
         return false;
     }
     if c.rows < c.kept {
+        return false;
+    }
+    if !fits_back(w.back, c.rows, w.apns) {
         return false;
     }
     if !fits_kind(kind, w.depth) {

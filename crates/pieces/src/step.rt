@@ -3,15 +3,23 @@
 ghost use mathlib.Core.Path.{_≡_};
 ghost use Prim.Native.Nat.{_≤_};
 ghost use mathlib.Core.Bool.{true};
+ghost use mathlib.Core.List.{[]};
 ghost use Rattle.taking.specs.Held.{Few};
-ghost use Rattle.pieces.specs.Coded.{aloneBy, joinedBy, takeBy, gatherBy, furtherBy};
-ghost use Rattle.pieces.specs.Contracts.{Taking, Heading, Adds, Wrote, Strode, HeadStrode, Stepping};
+ghost use Rattle.pieces.specs.Coded.{withWatch, watchedBy, aloneBy, joinedBy, takeBy, gatherBy, furtherBy};
+ghost use Rattle.pieces.specs.Contracts.{Watching, Taking, Heading, Adds, Wrote, Strode, HeadStrode, Stepping};
 use crate::Going;
 use crate::Open;
 use crate::Walked;
 use crate::level;
 use taking::Counts;
 use taking::wide;
+
+// No octet: those of a value are still to come.
+pub(crate) fn nothing<'a>(some: &'a [u8]) -> &'a [u8]
+    ensures { λ r. ⌜ now r ≡ [] ⌝ }
+{
+    &some[0..0]
+}
 
 // Counts that an element is counted from by itself: its row is then the first.
 pub(crate) fn alone(c: Counts) -> Counts
@@ -38,6 +46,45 @@ pub(crate) fn joined(c: Counts, e: Counts) -> Counts
     }
 }
 
+pub(crate) fn with_watch(w: Going, limited: bool, apns: usize, back: Counts) -> Going
+    ensures { λ r. ⌜ r ≡ withWatch w limited apns back ⌝ }
+{
+    let levels = w.levels;
+    let some = w.some;
+    let counts = w.counts;
+    Going {
+        stopped: w.stopped,
+        depth: w.depth,
+        levels,
+        place: w.place,
+        have: w.have,
+        some,
+        pass: w.pass,
+        counts,
+        limited,
+        apns,
+        back,
+    }
+}
+
+// What is watched after an element: one that is entered, by its limits; another may be an APN.
+pub(crate) fn watch(w: Going, inner: u8, limited: bool, n: usize, counts: Counts) -> Going
+    requires { ⌜ Watching w n ⌝ }
+    ensures { λ r. ⌜ r ≡ watchedBy w inner limited n counts ⌝ }
+{
+    if inner == 0 {
+        return with_watch(w, w.limited, w.apns + n, w.back);
+    }
+    let c = w.counts;
+    let back = Counts {
+        rows: counts.rows,
+        kept: c.kept,
+        short: counts.short,
+        gap: counts.gap,
+    };
+    with_watch(w, limited, 0, back)
+}
+
 // One element is taken at the innermost level: `came` says whether its first value octet, `first`, has come.
 pub(crate) fn take(
     kind: u32,
@@ -61,6 +108,7 @@ pub(crate) fn take(
         f.level,
         lines,
         h,
+        nothing(&some),
         w.place,
         f.parent,
         &mut marks,
@@ -75,7 +123,9 @@ pub(crate) fn take(
         home: f.home,
         left: f.left - (4 + h.len),
     };
-    let next = level::place(kind, w, on, e.inner, h.len, first, came, counts);
+    let n = taking::frames::apns(h.typ, h.inst);
+    let seen = watch(w, e.inner, e.limited, n, counts);
+    let next = level::place(seen, on, e.inner, h.len, first, came, counts);
     level::settle(kind, numbers, next)
 }
 
@@ -89,6 +139,7 @@ pub(crate) fn gather(w: Going, x: u8) -> Going
     some[at] = x;
     let levels = w.levels;
     let counts = w.counts;
+    let back = w.back;
     Going {
         stopped: w.stopped,
         depth: w.depth,
@@ -98,6 +149,9 @@ pub(crate) fn gather(w: Going, x: u8) -> Going
         some,
         pass: w.pass,
         counts,
+        limited: w.limited,
+        apns: w.apns,
+        back,
     }
 }
 

@@ -10,6 +10,7 @@ use lib.ListN.{length, take, drop, getD, replicate}
 use Rattle.rules.specs.Framing.{octet, version, flagP, flagT, messageType, lengthField, headerLength, headOf}
 use Rattle.rules.specs.Types.{parteds, leastByType, leastOf, groups, isGroup}
 use Rattle.rules.specs.Listings.{levels, messages, book, seek, seekMessage, listing, messageOf, isMessage}
+use Rattle.rules.specs.Frames.{seen, exceeds}
 use Rattle.rules.specs.Standing.{isShort, markAfter, standing, marked, entered, itemOf}
 use Rattle.rules.specs.Taking.{run, walk, itemsOf, bodyLevel, taken}
 use Rattle.rules.specs.Table.{laid}
@@ -95,7 +96,7 @@ module _ (f : Writer) (j : IsCleaner f) where
 
   -- one that drops what is set aside at the message's own level alone: the element inside stays
   outer-inner : getD (outerCleaned 1 messageInner) 3 0 ≡ 0x16
-  unfolding flagT messageType headerLength headOf parteds leastByType leastOf groups isGroup levels messages book seek seekMessage listing messageOf isMessage isShort markAfter standing marked entered itemOf run walk itemsOf bodyLevel taken sizeOf within emitted received pieces
+  unfolding seen exceeds flagT messageType headerLength headOf parteds leastByType leastOf groups isGroup levels messages book seek seekMessage listing messageOf isMessage isShort markAfter standing marked entered itemOf run walk itemsOf bodyLevel taken sizeOf within emitted received pieces
   outer-inner = refl
 
   pub outer-alone : Leaves f (λ k m c. laid (outerCleaned k m) c) → ⊥

@@ -5,6 +5,7 @@
 --     masked-verdict, masked-table, masked-accepted   it gets the message's own verdict and table
 --     masked-covered, masked-twice, masked-copy       it has the message's covered octets, is its own copy, and is masked as the message is
 --     copy-front, copy-verdict, copy-table            the copy's part of the message's length is the masked message, and is judged so
+--     copy-is-table                                   and a table of the message is a table of it
 --     desk-place, desk-octets, desk-part              what the desk's lookup answers without the right does not depend on a covered octet
 use mathlib.Core.Path.{_≡_, sym, _∙_}
 use mathlib.Core.Bool.{true, false, cond}
@@ -17,11 +18,13 @@ use Rattle.rules.specs.Values.{tableRows, rowSpan, deskSpan}
 use Rattle.rules.specs.Verdicts.{accepted, refuses, first, framingChecks, judgeVerdict, maskVerdict, judgeTable}
 use Rattle.rules.specs.Covered.{covered, masked, maskCopy}
 use Rattle.rules.specs.Sound.{sound}
+use Rattle.rules.proofs.Header.{Passed}
+use Rattle.tables.specs.IsTable.{IsTable}
 use Rattle.promises.specs.Agreeing.{SameOpen, deskPlace, deskOctets, AtDesk}
 use Rattle.verdicts.proofs.Laying.{laid-take, laid-length, laid-in, laid-past, judge-framed}
 use Rattle.promises.proofs.Left.{accepted-copy, mask-framed, enough-copy}
 use Rattle.promises.proofs.Clearing.{masked-length, masked-at}
-use Rattle.promises.proofs.Agreeing.{same-is-of, same-covered, same-verdict, same-table, same-masked, same-copy}
+use Rattle.promises.proofs.Agreeing.{same-is-of, same-is-table, same-covered, same-verdict, same-table, same-masked, same-copy}
 
 -- ---- demand 3 (b): each octet of the copy
 
@@ -74,6 +77,11 @@ module _ (b : Book) (fine : sound b ≡ true) (k : ℕ) (m copy : List ℕ) (ok 
 
   pub copy-table : (table : List ℕ) → judgeTable b k (take (length m) (maskCopy b k m copy)) table ≡ judgeTable b k m table
   copy-table table = rw (copy-front b fine k m copy ok) (masked-table b fine k m (mask-framed b k m (length copy) ok) table)
+
+  pub copy-is-table : Passed b k m → (t : List ℕ) → IsTable b k m t → IsTable b k (take (length m) (maskCopy b k m copy)) t
+  copy-is-table p t x =
+      rw (copy-front b fine k m copy ok)
+      (same-is-table b fine k m (masked b k m) (masked-open b fine k m (mask-framed b k m (length copy) ok)) p t x)
 
 -- ---- what the desk's lookup answers without the right
 

@@ -1,4 +1,4 @@
--- `IsTable` holds of the examples' own tables, so it is not empty: of D, F with its repeat, G with its group, K with its unexpected group. And J, which is
+-- `IsTable` holds of the examples' own tables, so it is not empty: of D, F with its repeat, G with its group, K with its unexpected group, and a void report. And J, which is
 -- cut inside a group, has no table at all, and is cut at 16. Assumes nothing.
 use mathlib.Core.Path.{_≡_, refl, sym, ap, _∙_}
 use mathlib.Core.List.{List, [], _++_}
@@ -7,18 +7,20 @@ use native.Mathlib.Omega.{arith}
 use lib.ListN.{length, take, drop}
 use Rattle.rules.specs.Framing.{octet, flagT, messageType, headerLength}
 use Rattle.rules.specs.Listings.{book}
-use Rattle.rules.specs.Values.{rowPlace}
+use Rattle.rules.specs.Standing.{void}
+use Rattle.rules.specs.Values.{rowPlace, rowStanding}
 use Rattle.rules.specs.Built.{teidOf, sequenceOf, ZeroBits}
 use Rattle.rules.specs.Answers.{Judged, Builds}
 use Rattle.rules.specs.declared.Verdict.{Verdict}
 use Rattle.rules.specs.declared.Sent.{Sent}
 use Rattle.rules.proofs.Rows.{Octets}
 use Rattle.rules.specs.Verdicts.{accepted}
-use Rattle.rules.specs.Examples.{judging, Outcome, examples, sevens, messageD, headF, firstF, secondF, messageG, messageK, head, line}
+use Rattle.rules.specs.Examples.{judging, Outcome, examples, voids, roomy, sevens, messageD, headF, firstF, secondF, messageG, messageK, head, line}
+use Rattle.tables.specs.Words.{rows}
 use Rattle.tables.specs.IsTable.{IsTable}
 use Rattle.verdicts.specs.IsCut.{IsCut}
 use Rattle.promises.specs.StandIns.{below}
-use Rattle.promises.proofs.Examples.{example, asked, messageJ}
+use Rattle.promises.proofs.Examples.{example, asked, messageJ, writtenVoid, example-void, messageVoid}
 use Rattle.promises.proofs.CleanStandIns.{below-octets}
 use Rattle.promises.proofs.Main.{judged-table, nine-exactly, nine-at-exactly, comes-back}
 
@@ -42,6 +44,17 @@ table-g = tabled 1 messageG (head 2 2 6 18 66 1 (line 0 93 0 16 5 0 (line 1 73 0
 pub table-k : IsTable book 1 messageK (head 3 2 6 24 66 1 (line 0 93 0 16 5 0 (line 1 73 0 20 1 0 (line 0 180 1 25 0 1 []))) ++ drop 24 sevens)
 unfolding examples
 table-k = tabled 1 messageK (head 3 2 6 24 66 1 (line 0 93 0 16 5 0 (line 1 73 0 20 1 0 (line 0 180 1 25 0 1 []))) ++ drop 24 sevens) (example 12)
+
+-- a report with eleven elements 71/0 has the standing 4 in its table, and no row stands in it
+pub table-void : IsTable book 1 messageVoid (writtenVoid 0 .left)
+unfolding voids
+table-void =
+    judged-table {lent = roomy} {v = accepted}
+    (record { answers = sym (ap (λ (x : Outcome). x .verdict) (example-void 0)); table-left = sym (ap (λ (x : Outcome). x .left) (example-void 0)) }) refl
+
+pub row-void : (rows (writtenVoid 0 .left) ≡ 5) × (rowStanding (writtenVoid 0 .left) 4 ≡ void)
+unfolding voids
+row-void = (refl, refl)
 
 pub none-j : (t : List ℕ) → IsTable book 1 messageJ t → ⊥
 unfolding examples

@@ -4,8 +4,8 @@ use mathlib.Core.List.{List, [], _∷_, _++_, map}
 use Prim.Native.Nat.{ℕ}
 use lib.ListN.{getD}
 use Rattle.rules.specs.Verdicts.{accepted}
-use Rattle.rules.specs.Examples.{Call, Outcome, examples, outcome, written, sevens, headG}
-use Rattle.rules.proofs.Examples.{a-to-m}
+use Rattle.rules.specs.Examples.{Call, Outcome, examples, voids, outcome, written, sevens, headG, reportOf, empties}
+use Rattle.rules.proofs.Examples.{a-to-m, all-voids}
 
 abbrev pub nothing : Outcome
 nothing = record { verdict = accepted; left = [] }
@@ -27,3 +27,13 @@ messageI = headG 0x0C ++ (0x5D ∷ 0x00 ∷ 0x00 ∷ 0x00 ∷ [])
 
 abbrev pub messageJ : List ℕ
 messageJ = headG 0x1A ++ (0x5D ∷ 0x00 ∷ 0x05 ∷ 0x00 ∷ 0x49 ∷ 0x00 ∷ 0x0A ∷ 0x00 ∷ 0x05 ∷ 0x5D ∷ 0x00 ∷ 0x05 ∷ 0x00 ∷ 0x49 ∷ 0x00 ∷ 0x01 ∷ 0x00 ∷ 0x06 ∷ [])
+
+-- and of those of CR 8: the first two are of a report with eleven elements 71/0, judged and masked
+abbrev pub writtenVoid : ℕ → Outcome
+writtenVoid n = getD (map written voids) n nothing
+
+pub example-void : (n : ℕ) → getD (map outcome voids) n nothing ≡ writtenVoid n
+example-void n = ap (λ (l : List Outcome). getD l n nothing) all-voids
+
+abbrev pub messageVoid : List ℕ
+messageVoid = reportOf 0x4E 0x2D (empties 10 (0x47 ∷ 0x00 ∷ 0x01 ∷ 0x00 ∷ 0x61 ∷ []))

@@ -3,6 +3,8 @@ pub mod Covering
 pub mod Clearing
 pub mod Veils
 pub mod Agreeing
+pub mod Voids
+pub mod Insides
 pub mod Copies
 pub mod Commuting
 pub mod Cleaned

@@ -12,14 +12,15 @@ use Rattle.rules.specs.Sizes.{largestMessage, mostRows, headerNumbers, fiveOcte
 use Rattle.rules.specs.Framing.{octet, elementHeader, headerLength, messageType}
 use Rattle.rules.specs.Types.{among}
 use Rattle.rules.specs.Listings.{book, noLine, lists}
-use Rattle.rules.specs.Standing.{Item, kept, unexpected, repeated, short}
+use Rattle.rules.specs.Frames.{Frame, hides}
+use Rattle.rules.specs.Standing.{Item, kept, unexpected, repeated, short, void}
 use Rattle.rules.specs.Taking.{whole, taken, bodyLevel}
 use Rattle.rules.specs.Table.{tableOf, laid}
 use Rattle.rules.specs.Verdicts.{accepted, refused, refusedAt, invalidLength, mandatoryMissing, refuses, first, framingChecks, items, judgeVerdict, maskVerdict, judgeTable, judgeNumbers, maskNumbers}
 use Rattle.rules.specs.Covered.{covered, masked, maskCopy}
 use Rattle.rules.specs.Cleaned.{cleaned, cleanChecks, cleanVerdict, cleanLength, cleanNumbers}
 use Rattle.rules.specs.Built.{teidOf, sequenceOf, ZeroBits, builtBy, buildChecks, buildVerdict, buildLength, buildNumbers}
-use Rattle.rules.specs.Values.{rowType, rowInstance, rowParent, rowPlace, rowStanding, tableType, tableKind, isCut, disagrees, isOf, nowhere, Stands}
+use Rattle.rules.specs.Values.{rowType, rowInstance, rowParent, rowPlace, rowLength, rowStanding, tableType, tableKind, isCut, disagrees, isOf, nowhere, Stands}
 use Rattle.rules.specs.Octets.{numbersIn, five, six, tableRoom}
 use Rattle.rules.specs.Answers.{Judged, Masked, Cleans, Builds, Plain, PlainFound, Desk, DeskFound, JudgedOctets, MaskedOctets, CleanedOctets, BuiltOctets}
 use Rattle.rules.specs.declared.Verdict.{Verdict}
@@ -28,22 +29,23 @@ use Rattle.rules.specs.declared.Sent.{Sent}
 use Rattle.rules.proofs.Book.{book-sound}
 use Rattle.rules.proofs.Checks.{OwnCase}
 use Rattle.rules.proofs.Header.{Passed, clean-case, build-case}
+use Rattle.rules.proofs.Frames.{Filled}
 use Rattle.rules.proofs.Rows.{Octets, header-least}
 use Rattle.tables.specs.Words.{rows, keptCount, firstRow, numbersUsed, keptAmong, rowStart, rowEnd, KeptGroup, IsLevel, Inside, Faithful}
 use Rattle.tables.specs.Levels.{levelOf}
-use Rattle.tables.specs.Standings.{itsListing, Listed, Again, Below}
+use Rattle.tables.specs.Standings.{itsListing, Listed, Again, Below, Over}
 use Rattle.tables.specs.IsTable.{IsOf, IsTable}
 use Rattle.tables.specs.Tiles.{Tiles}
 use Rattle.verdicts.specs.Missing.{ShortRow, Lacks, NamesShort, NamesLack}
 use Rattle.verdicts.specs.Accepts.{Leaves}
 use Rattle.verdicts.specs.IsCut.{IsCut}
-use Rattle.verdicts.specs.Covers.{ValueOver, Covers}
+use Rattle.verdicts.specs.Covers.{ValueOver, framesIn, Covers}
 use Rattle.verdicts.specs.Conditions.{framingConditions, judgeConditions, maskConditions, OwnWords, judgeWords, maskWords}
 use Rattle.tables.proofs.Rowed.{Begins}
 use Rattle.verdicts.proofs.Laying.{accepted-table}
 use Rattle.verdicts.proofs.Cases.{judge-words, mask-words, judge-says, mask-says}
 use Rattle.verdicts.proofs.Acceptance.{NoneHolds, OneOf, judge-accepting, mask-accepting, judge-codes, mask-codes, clean-codes, build-codes}
-use Rattle.tables.proofs.Standings.{listed-iff, unexpected-iff, repeated-iff, short-iff, kept-iff, kept-listed}
+use Rattle.tables.proofs.Standings.{listed-iff, unexpected-iff, repeated-iff, short-iff, void-iff, kept-iff, kept-listed}
 use Rattle.tables.proofs.Trees.{backward, between, in-message}
 use Rattle.tables.proofs.Tiling.{tiles}
 use Rattle.tables.proofs.Levels.{level-group, group-level}
@@ -56,6 +58,7 @@ use Rattle.verdicts.proofs.Cutting.{nine-iff}
 use Rattle.verdicts.proofs.CutPlace.{table-or-cut, never-both, cut-once, nine-at}
 use Rattle.verdicts.proofs.Refusing.{ten-iff, eleven-iff, eleven-at, twelve-iff, twelve-at}
 use Rattle.promises.specs.Agreeing.{SameOpen, AtDesk}
+use Rattle.promises.specs.Voids.{Report, points, Inner, Says}
 use Rattle.promises.specs.Exports.{LeavesOctets}
 use Rattle.promises.specs.Cleaning.{CleanRows}
 use Rattle.promises.specs.Building.{SameRows, HasHead, NumberAlone}
@@ -63,8 +66,10 @@ use Rattle.promises.proofs.Built.{short-table, long-table, build-alone,
 use Rattle.promises.specs.Lookups.{valueOf, TopRow, FirstTopRow, SomethingElse}
 use Rattle.promises.proofs.Left.{refused-table, refused-copy, table-stays}
 use Rattle.promises.proofs.Covering.{header-open, element-header-open}
+use Rattle.promises.proofs.Voids.{report-void, report-kept, void-childless, void-apart, void-lacks, never-named}
+use Rattle.promises.proofs.Insides.{report-filled, inner-says, covers-void, inner-value-covered, inner-header-open}
 use Rattle.promises.proofs.Agreeing.{same-verdict, same-table, same-mask-verdict, same-copy}
-use Rattle.promises.proofs.Copies.{copy-octet, copy-past, copy-verdict, copy-table, masked-twice, desk-part}
+use Rattle.promises.proofs.Copies.{copy-octet, copy-past, copy-verdict, copy-table, copy-is-table, masked-twice, desk-part}
 use Rattle.promises.proofs.Exports.{code-of, export-leaves, leaves-export, export-refused, five-read, five-short, answer-read, answer-stays, answer-short}
 use Rattle.promises.proofs.Contracts.{two-judged, two-masked, two-judged-octets, two-masked-octets, copied, copied-octets}
 use Rattle.promises.proofs.Cleaned.{left-alone, refused-as-judged, accepted-exactly, thirteen-by-room, made, is-copy, past-stays, header-kept, no-longer, clean-judged-as, clean-once, whole-same, commutes}
@@ -251,7 +256,7 @@ module _ (k : ℕ) (m : List ℕ) where
 
     -- a pair is listed where some line of its level lists it for this kind.
     -- Standing 1 exactly where the pair is not listed at the row's level for this kind; 2 where it is, is not marked *, and an earlier row has that parent and
-    -- pair; 3 where neither and the value is below the least length; 0 otherwise
+    -- pair; 3 where neither and the value is below the least length; 4 where none of these and it holds more of a pair than its line lets stand; 0 otherwise
     pub listed-exactly : (r : ℕ) → Listed book k m t r
         ↔ ((j : ℕ) × (j < length (itsListing book k m t r)) × (lists k (rowType t r) (rowInstance t r) (getD (itsListing book k m t r) j noLine) ≡ true))
     listed-exactly = listed-iff book k m t
@@ -266,13 +271,63 @@ module _ (k : ℕ) (m : List ℕ) where
       pub three-exactly : (rowStanding t r ≡ short) ↔ (Listed book k m t r × (Again book k m t r → ⊥) × Below book k m t r)
       three-exactly = short-iff book k m t (x .right) r l
 
-      pub zero-exactly : (rowStanding t r ≡ kept) ↔ (Listed book k m t r × (Again book k m t r → ⊥) × (Below book k m t r → ⊥))
+      pub four-exactly : (rowStanding t r ≡ void) ↔ (Listed book k m t r × (Again book k m t r → ⊥) × (Below book k m t r → ⊥) × Over book k m t r)
+      four-exactly = void-iff book k m t (x .right) r l
+
+      pub zero-exactly : (rowStanding t r ≡ kept) ↔ (Listed book k m t r × (Again book k m t r → ⊥) × (Below book k m t r → ⊥) × (Over book k m t r → ⊥))
       zero-exactly = kept-iff book k m t (x .right) r l
+
+  -- ---- CR 8: a void overload report
+
+  module _ (p : Passed book k m) (t : List ℕ) (x : IsTable book k m t) (r : ℕ) (l : r < rows t) where
+    -- a row has standing 4 exactly where it is a 180/0 at the level of a message 67 and more than ten elements 71/0 stand directly inside its value, short
+    -- ones counted; any other such row is kept
+    pub void-exactly : (rowStanding t r ≡ void) ↔ (Report m t r × (10 < points m t r))
+    void-exactly = report-void k m p t x r l
+
+    pub kept-otherwise : Report m t r → points m t r ≤ 10 → rowStanding t r ≡ kept
+    kept-otherwise = report-kept k m p t x r l
+
+    -- elements fill its value, kept or void: a fault of framing in it leaves the message no table, and that is 9
+    pub report-is-filled : Report m t r → Filled (take (rowLength t r) (drop (rowPlace t r) m)) (framesIn m t r)
+    report-is-filled = report-filled k m p t x r l
+
+    module _ (e : rowStanding t r ≡ void) where
+      -- no row has it for its parent, none begins inside it, and no pair is required there; so 11 and 12 name no place in it
+      pub void-has-no-rows : (q : ℕ) → q < rows t → rowParent t q ≢ suc r
+      void-has-no-rows = void-childless book book-sound k m t x r l e
+
+      pub void-rows-apart : (q : ℕ) → q < rows t → q ≢ r → (rowStart t q < rowStart t r) ⊎ (rowEnd t r ≤ rowStart t q)
+      void-rows-apart = void-apart book book-sound k m t x r l e
+
+      pub void-requires-nothing : (j : ℕ) → Lacks book k (bodyLevel book m) t (suc r) j → ⊥
+      void-requires-nothing = void-lacks book book-sound k m t x r l e
+
+      pub void-not-named : (room : ℕ) → 11 ≤ judgeVerdict book k m room .code
+          → (judgeVerdict book k m room .place < rowStart t r) ⊎ (rowEnd t r ≤ judgeVerdict book k m room .place)
+      void-not-named = never-named book book-sound k m t x r l e p
+
+      -- each element inside it is there as its header says
+      pub void-inner-there : (c : ℕ) (f : Frame) → Inner (framesIn m t r) c f → Says (drop c (take (rowLength t r) (drop (rowPlace t r) m))) f
+      void-inner-there = inner-says book book-sound k m p t x r l e
+
+      -- of its value just the value octets of those elements are covered; each octet of such a value is, and no octet of such a header (nor one
+      -- of the row's own: `element-header-not-covered`)
+      pub void-covers : (j : ℕ) → rowPlace t r ≤ j → j < rowEnd t r → covered book k m j ≡ hides (framesIn m t r) (j - rowPlace t r)
+      void-covers = covers-void book book-sound k m p t x r l e
+
+      pub void-value-covered : (c : ℕ) (f : Frame) → Inner (framesIn m t r) c f
+          → (j : ℕ) → rowPlace t r + c + elementHeader ≤ j → j < rowPlace t r + c + elementHeader + f .len → covered book k m j ≡ true
+      void-value-covered = inner-value-covered book book-sound k m p t x r l e
+
+      pub void-header-not-covered : (c : ℕ) (f : Frame) → Inner (framesIn m t r) c f
+          → (j : ℕ) → rowPlace t r + c ≤ j → j < rowPlace t r + c + elementHeader → covered book k m j ≡ false
+      void-header-not-covered = inner-header-open book book-sound k m p t x r l e
 
   -- ======== Demand 3: a message that differs in covered octets at most is judged, tabled and masked alike.
 
   -- an octet is covered exactly where 1 to 9 pass and a row of the message's table covers it
-  pub covered-exactly : (j : ℕ) → (covered book k m j ≡ true) ↔ (Passed book k m × ((t : List ℕ) × IsTable book k m t × ((r : ℕ) × ValueOver t j r × Covers t j r)))
+  pub covered-exactly : (j : ℕ) → (covered book k m j ≡ true) ↔ (Passed book k m × ((t : List ℕ) × IsTable book k m t × ((r : ℕ) × ValueOver t j r × Covers m t j r)))
   covered-exactly = covered-iff book book-sound k m
 
   module _ (n : List ℕ) (s : SameOpen book k m n) where
@@ -301,6 +356,10 @@ module _ (k : ℕ) (m : List ℕ) where
 
     pub copy-tabled : (t : List ℕ) → judgeTable book k (take (length m) (maskCopy book k m c)) t ≡ judgeTable book k m t
     copy-tabled = copy-table book book-sound k m c made
+
+    -- and so, whatever the judge says of it, is its table: the same rows are void
+    pub copy-has-table : Passed book k m → (t : List ℕ) → IsTable book k m t → IsTable book k (take (length m) (maskCopy book k m c)) t
+    copy-has-table = copy-is-table book book-sound k m c made
 
   -- ======== What a reader expects besides.
 
@@ -342,6 +401,10 @@ module _ {k : ℕ} {m lent : List ℕ} {v : Verdict} {left : List ℕ} (c : Judg
   -- so all that is said of the rows of a table holds of what is left
   pub judged-table : v ≡ accepted → IsTable book k m left
   judged-table a = judged-exactly .0 a .accepts .table
+
+  -- and its standing 4 is as CR 8 says
+  pub judged-void : v ≡ accepted → (r : ℕ) → r < rows left → (rowStanding left r ≡ void) ↔ (Report m left r × (10 < points m left r))
+  judged-void a = void-exactly k m (judged-exactly .0 a .accepts .header) left (judged-table a)
 
 -- ---- the masker
 

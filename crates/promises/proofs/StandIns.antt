@@ -8,18 +8,20 @@ use native.Mathlib.Omega.{arith}
 use lib.ListN.{length, getD, replicate}
 use denote.Ref.{RefT, now}
 use Rattle.rules.specs.Framing.{version, flagP, flagT, messageType, lengthField, headerLength, headOf}
-use Rattle.rules.specs.Types.{parteds, leastByType, leastOf}
+use Rattle.rules.specs.Types.{parteds, leastByType, leastOf, wholeTypes, coversWhole, restTypes, coversRest}
 use Rattle.rules.specs.Listings.{levels, messages, book, seek, seekMessage, listing, messageOf, isMessage}
+use Rattle.rules.specs.Frames.{seen, filledBy, framesBy, framesOf, tally, exceeds}
 use Rattle.rules.specs.Standing.{isShort, markAfter, standing, marked, entered, itemOf}
 use Rattle.rules.specs.Taking.{run, walk, itemsOf, bodyLevel, taken}
 use Rattle.rules.specs.Table.{header, tableOf, laid}
-use Rattle.rules.specs.Verdicts.{accepted, refusedAt, check, refuses, first, shortChecks, hasKept, levelChecks, groupChecks, lackChecks, headerChecks, framingChecks, judgeChecks, judgeVerdict, items}
+use Rattle.rules.specs.Verdicts.{accepted, refused, refusedAt, check, refuses, first, shortChecks, hasKept, levelChecks, groupChecks, lackChecks, headerChecks, framingChecks, judgeChecks, judgeVerdict, items}
+use Rattle.rules.specs.Covered.{openOctets, zeroed, insideCleared}
 use Rattle.rules.specs.Values.{standingKept, isOf, tableRows, rowSpan, deskSpan, isPlain, seekPlain, plainSpan}
-use Rattle.rules.specs.Examples.{judging, masking, Outcome, examples, sevens, messageD, messageE, messageG, messageM, head, line}
+use Rattle.rules.specs.Examples.{judging, masking, Outcome, examples, voids, roomy, empties, sevens, messageD, messageE, messageG, messageM, head, line}
 use Rattle.rules.specs.declared.Verdict.{Verdict}
-use Rattle.verdicts.proofs.Laying.{accepted-table}
-use Rattle.promises.proofs.Examples.{example, writtenOf, asked, messageI, messageJ}
-use Rattle.promises.specs.StandIns.{below, octetBound, numberBound, Function, Given, IsJudge, IsMasker, Lookup, GivenPair, IsPlain, DeskLookup, GivenRow, IsDesk, outerLine, outerLines, outerLevels, outerBook}
+use Rattle.verdicts.proofs.Laying.{accepted-table, laid-in}
+use Rattle.promises.proofs.Examples.{example, writtenOf, asked, messageI, messageJ, example-void, messageVoid}
+use Rattle.promises.specs.StandIns.{below, octetBound, numberBound, Function, Given, IsJudge, IsMasker, Lookup, GivenPair, IsPlain, DeskLookup, GivenRow, IsDesk, outerLine, outerLines, outerLevels, outerBook, freeLine, freeBook, clearedWhole}
 
 -- ---- what comes out of the examples
 
@@ -54,6 +56,14 @@ given-j : Given numberBound 1 messageJ sevens
 unfolding below
 given-j = record { kind = refl; octets = refl; numbers = refl }
 
+given-void : Given numberBound 1 messageVoid roomy
+unfolding below empties
+given-void = record { kind = refl; octets = refl; numbers = refl }
+
+given-copy : Given octetBound 1 messageVoid (replicate 82 7)
+unfolding below empties
+given-copy = record { kind = refl; octets = refl; numbers = refl }
+
 given-m : Given octetBound 1 messageM sevens
 unfolding below
 given-m = record { kind = refl; octets = refl; numbers = refl }
@@ -85,11 +95,11 @@ module _ (f : Function) (j : IsJudge f) where
 
   -- a judge that reads the body alone and makes up what groups hold accepts I and J; so the one alone turns it down, and so does the other
   outer-accepts-i : judgeVerdict outerBook 1 messageI (length sevens) ≡ accepted
-  unfolding outerBook outerLevels outerLines outerLine version flagP flagT messageType lengthField headerLength headOf parteds leastByType leastOf levels messages book seek seekMessage listing messageOf isMessage isShort markAfter standing marked entered itemOf run walk itemsOf bodyLevel taken check first shortChecks hasKept levelChecks groupChecks lackChecks headerChecks framingChecks judgeChecks
+  unfolding outerBook outerLevels outerLines outerLine seen exceeds version flagP flagT messageType lengthField headerLength headOf parteds leastByType leastOf levels messages book seek seekMessage listing messageOf isMessage isShort markAfter standing marked entered itemOf run walk itemsOf bodyLevel taken check first shortChecks hasKept levelChecks groupChecks lackChecks headerChecks framingChecks judgeChecks
   outer-accepts-i = refl
 
   outer-accepts-j : judgeVerdict outerBook 1 messageJ (length sevens) ≡ accepted
-  unfolding outerBook outerLevels outerLines outerLine version flagP flagT messageType lengthField headerLength headOf parteds leastByType leastOf levels messages book seek seekMessage listing messageOf isMessage isShort markAfter standing marked entered itemOf run walk itemsOf bodyLevel taken check first shortChecks hasKept levelChecks groupChecks lackChecks headerChecks framingChecks judgeChecks
+  unfolding outerBook outerLevels outerLines outerLine seen exceeds version flagP flagT messageType lengthField headerLength headOf parteds leastByType leastOf levels messages book seek seekMessage listing messageOf isMessage isShort markAfter standing marked entered itemOf run walk itemsOf bodyLevel taken check first shortChecks hasKept levelChecks groupChecks lackChecks headerChecks framingChecks judgeChecks
   outer-accepts-j = refl
 
   pub pretends-inside-i : f 1 messageI sevens .verdict ≡ judgeVerdict outerBook 1 messageI (length sevens) → ⊥
@@ -109,6 +119,20 @@ module _ (f : Function) (j : IsJudge f) where
 
   pub pretends-inside : ((k : ℕ) (m t : List ℕ) → Given numberBound k m t → f k m t .verdict ≡ judgeVerdict outerBook k m (length t)) → ⊥
   pretends-inside p = pretends-inside-i (p 1 messageI sevens given-i)
+
+  -- a judge that lists what stands inside a void group (CR 8): it would want room for eleven rows more
+  free-refuses : judgeVerdict freeBook 1 messageVoid (length roomy) ≡ refused 10 0
+  unfolding freeBook freeLine empties seen exceeds filledBy framesBy framesOf version flagP flagT messageType lengthField headerLength headOf parteds leastByType leastOf levels messages book seek seekMessage listing messageOf isMessage isShort markAfter standing marked entered itemOf run walk itemsOf bodyLevel taken check first shortChecks hasKept levelChecks groupChecks lackChecks headerChecks framingChecks judgeChecks
+  free-refuses = refl
+
+  pub lists-void-one : f 1 messageVoid roomy .verdict ≡ judgeVerdict freeBook 1 messageVoid (length roomy) → ⊥
+  unfolding voids
+  lists-void-one p =
+      let a = j 1 messageVoid roomy given-void .answers ∙ ap (λ (x : Outcome). x .verdict) (example-void 0) in
+      let z : accepted ≡ refused 10 0 = sym a ∙ p ∙ free-refuses in omega (arith, ap (λ (v : Verdict). v .code) z)
+
+  pub lists-void : ((k : ℕ) (m t : List ℕ) → Given numberBound k m t → f k m t .verdict ≡ judgeVerdict freeBook k m (length t)) → ⊥
+  lists-void p = lists-void-one (p 1 messageVoid roomy given-void)
 
   -- a row count that is not the number of elements taken
   pub wrong-count : (k : ℕ) (m t : List ℕ) → Given numberBound k m t → refuses (f k m t .verdict) ≡ false → getD (f k m t .left) 0 0 ≢ length (items book k m) → ⊥
@@ -154,6 +178,24 @@ module _ (f : Function) (j : IsMasker f) where
   pub zeroes-all : Makes f (λ m c. laid (replicate (length m) 0) c) → ⊥
   unfolding laid
   zeroes-all r = omega (arith, copy-m .1, ap (λ (l : List ℕ). getD l 0 0) (r 1 messageM sevens given-m made-m))
+
+  -- one that zeroes the headers inside a void group with the values (CR 8): octet 37 is the first of such a header
+  whole-cleared : (getD (clearedWhole messageVoid (items book 1 messageVoid)) 37 0 ≡ 0) × (length (clearedWhole messageVoid (items book 1 messageVoid)) ≡ 82)
+  unfolding clearedWhole zeroed openOctets insideCleared wholeTypes coversWhole restTypes coversRest empties seen exceeds tally filledBy framesBy framesOf version flagP flagT messageType lengthField headerLength headOf parteds leastByType leastOf levels messages book seek seekMessage listing messageOf isMessage isShort markAfter standing marked entered itemOf run walk itemsOf bodyLevel taken
+  whole-cleared = (refl, refl)
+
+  pub clears-headers-one : f 1 messageVoid (replicate 82 7) .left ≡ laid (clearedWhole messageVoid (items book 1 messageVoid)) (replicate 82 7) → ⊥
+  unfolding voids empties
+  clears-headers-one p =
+      let a = j 1 messageVoid (replicate 82 7) given-copy .copy-left ∙ ap (λ (x : Outcome). x .left) (example-void 1) in
+      let xs = clearedWhole messageVoid (items book 1 messageVoid) in
+      omega (arith, ap (λ (l : List ℕ). getD l 37 0) (sym a ∙ p), laid-in xs (replicate 82 7) 37 (omega (arith, whole-cleared .1)), whole-cleared .0)
+
+  pub clears-headers : ((k : ℕ) (m c : List ℕ) → Given octetBound k m c → refuses (f k m c .verdict) ≡ false → f k m c .left ≡ laid (clearedWhole m (items book k m)) c) → ⊥
+  unfolding voids
+  clears-headers p =
+      let a = j 1 messageVoid (replicate 82 7) given-copy .answers ∙ ap (λ (x : Outcome). x .verdict) (example-void 1) in
+      clears-headers-one (p 1 messageVoid (replicate 82 7) given-copy (rw a))
 
 -- ---- lookups that always answer the empty part (G)
 

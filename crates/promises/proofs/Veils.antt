@@ -99,7 +99,7 @@ module _ (b : Book) (fine : sound b ≡ true) (k : ℕ) (m : List ℕ) (pass : r
             (sym (zeroed-before value shown (i .len - shown) c fits u ∙ at m c l))
         each c l (no u) =
             at (masked b k m) c l ∙ octet-is (valuePlace i + c)
-            ∙ rw (sits .owns g (valuePlace i + c) (omega arith) (omega arith), covered-after i (valuePlace i + c) shown (opening (i .typ) (i .stand) (i .len)) (sits .stands) (omega arith) (omega arith))
+            ∙ rw (sits .owns g (valuePlace i + c) (omega arith) (omega arith), covered-after i (valuePlace i + c) shown (opening (i .typ) (i .stand) (i .len)) (omega arith) (omega arith))
             (sym (zeroed-in value shown (i .len - shown) c fits (omega arith) (omega (arith, within))))
 
     row-veiled : received (masked b k m) i ≡ veil (received m i)

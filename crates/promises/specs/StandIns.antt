@@ -9,8 +9,9 @@ use lib.ListN.{take, drop}
 use denote.Ref.{RefT, now}
 use Rattle.rules.specs.Listings.{Book, Line, book}
 use Rattle.rules.specs.Framing.{octet, headerLength}
-use Rattle.rules.specs.Standing.{Item, kept}
+use Rattle.rules.specs.Standing.{Item, kept, void, valuePlace}
 use Rattle.rules.specs.Verdicts.{items}
+use Rattle.rules.specs.Covered.{zeroed, cleared}
 use Rattle.rules.specs.Emitting.{Piece, emitted, written}
 use Rattle.rules.specs.Cleaned.{pieces}
 use Rattle.rules.specs.Built.{firstOf, givenRows, hasTeid, restGiven}
@@ -77,6 +78,7 @@ takenOuter i = record {
   stand = cond (eqb (i .parent) 0) (i .stand) kept;
   must = i .must;
   inside = i .inside;
+  hidden = i .hidden;
 }
 
 abbrev pub outerCleaned : ℕ → List ℕ → List ℕ
@@ -138,7 +140,7 @@ IsDesk f = (k r : ℕ) (right : Bool) (m c : RefT (List ℕ)) (t : List ℕ) →
 
 -- the listings with no group's inside, and the same mandatory pairs at the message level
 unfoldable pub outerLine : Line → Line
-outerLine l = record { typ = l .typ; inst = l .inst; must = l .must; many = l .many; kinds = l .kinds; inside = 0 }
+outerLine l = record { typ = l .typ; inst = l .inst; must = l .must; many = l .many; kinds = l .kinds; inside = 0; limits = [] }
 
 unfoldable pub outerLines : List Line → List Line
 outerLines [] = []
@@ -151,3 +153,15 @@ outerLevels (ls ∷ more) = outerLines ls ∷ outerLevels more
 -- it judges the message level, and only pretends inside groups
 unfoldable pub outerBook : Book
 outerBook = record { kinds = book .kinds; messages = book .messages; levels = outerLevels (book .levels) }
+
+-- the listings without their limits: what a void group holds is listed as though it were kept
+unfoldable pub freeLine : Line → Line
+freeLine l = record { typ = l .typ; inst = l .inst; must = l .must; many = l .many; kinds = l .kinds; inside = l .inside; limits = [] }
+
+unfoldable pub freeBook : Book
+freeBook = record { kinds = book .kinds; messages = book .messages; levels = map (map freeLine) (book .levels) }
+
+-- the masked message, but that of a void row the whole value is zero, headers too
+unfoldable pub clearedWhole : List ℕ → List Item → List ℕ
+clearedWhole xs [] = xs
+clearedWhole xs (i ∷ is) = clearedWhole (cond (eqb (i .stand) void) (zeroed xs (valuePlace i) (i .len)) (cleared xs i)) is

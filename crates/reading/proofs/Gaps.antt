@@ -18,7 +18,7 @@ use Rattle.rules.specs.Taking.{whole, itemsOf}
 use Rattle.rules.specs.Met.{At, Met, ends, alone, group}
 use Rattle.rules.specs.Verdicts.{first, levelChecks, groupChecks, lackChecks, lackVerdict}
 use Rattle.rules.specs.Sound.{sound}
-use Rattle.rules.specs.declared.Head.{Head}
+use Rattle.rules.specs.Frames.{Element}
 use Rattle.rules.proofs.Heads.{fits, value-length}
 use Rattle.rules.proofs.Mets.{made, made-number, met-walk, whole-met}
 use Rattle.rules.proofs.Standings.{marked-length}
@@ -37,7 +37,7 @@ shuffle a g₁ l₁ g₂ l₂ = rw (lesser-comm g₁ l₁) (simp lesser-assoc)
 abbrev gapMade : {b : Book} {k v : ℕ} {m : List ℕ} {p n at : ℕ} {xs : List ℕ} {es : List Item} → Met b k v m p n at xs es → ℕ → Gap → Gap
 gapMade {b} {k} d o s = made b k Gap gapOne (gapShut b k) (gapNumber b k) d o s
 
-own-parent : (b : Book) (k v : ℕ) (m : List ℕ) (p at n : ℕ) (h : Head) → p ≤ n → itemOf b k v m p at h .parent ≤ n
+own-parent : (b : Book) (k v : ℕ) (m : List ℕ) (p at n : ℕ) (h : Element) → p ≤ n → itemOf b k v m p at h .parent ≤ n
 unfolding itemOf
 own-parent b k v m p at n h le = le
 
@@ -46,13 +46,13 @@ module _ (b : Book) (fine : sound b ≡ true) (k : ℕ) (all : List Item) where
   unfolding groupChecks first packed
   no-groups n = refl
 
-  alone-gap : (n v : ℕ) (m : List ℕ) (p at : ℕ) (h : Head) (es : List Item) → entered b k v m h ≡ 0
+  alone-gap : (n v : ℕ) (m : List ℕ) (p at : ℕ) (h : Element) (es : List Item) → entered b k v m h ≡ 0
       → groupGap b k all n (itemOf b k v m p at h ∷ es) ≡ groupGap b k all (n + 1) es
   unfolding groupChecks itemOf
   alone-gap n v m p at h es e = rw (e, add-one n)
 
   -- a group: its own level, and the groups in it and after it
-  module _ (m : List ℕ) (at : ℕ) {v p n g : ℕ} {xs : List ℕ} {is es : List Item} (h : Head) (a : At xs h) (e : entered b k v m h ≡ suc g)
+  module _ (m : List ℕ) (at : ℕ) {v p n g : ℕ} {xs : List ℕ} {is es : List Item} (h : Element) (a : At xs h) (e : entered b k v m h ≡ suc g)
       (d : Met b k (suc g) fresh (n + 1) (n + 1) (at + elementHeader) (take (h .len) (drop elementHeader xs)) is)
       (t : Met b k v (marked b k v m h) p (n + 1 + length is) (at + elementHeader + h .len) (drop (elementHeader + h .len) xs) es)
       (le : p ≤ n) (loc : Local all n (itemOf b k v m p at h ∷ (is ++ es))) where

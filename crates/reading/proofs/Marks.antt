@@ -16,12 +16,13 @@ use lib.ListN.{length, getD, replicate}
 use lib.Seq.{getD-set-same, getD-set-other}
 use Rattle.rules.specs.Types.{among}
 use Rattle.rules.specs.Listings.{Book, Line, anyInstance, lists, noLine, listing}
-use Rattle.rules.specs.Standing.{Item, kept, mostLines, fresh, markAfter, lineNumber, isListed, standing, marked, itemOf}
+use Rattle.rules.specs.Standing.{Item, kept, void, mostLines, fresh, markAfter, lineNumber, isListed, standing, marked, itemOf}
 use Rattle.rules.specs.Verdicts.{isMandatory, isKept, hasKept, check, refusedAt, mandatoryMissing, first, levelChecks}
-use Rattle.rules.specs.Sound.{sound}
-use Rattle.rules.specs.declared.Head.{Head}
+use Rattle.rules.specs.Sound.{sound, isFree}
+use Rattle.rules.specs.Frames.{Element}
 use Rattle.rules.proofs.Lines.{and-left, and-right, seek-lists, seek-own, lists-is, level-distinct, level-size, line-sound, sound-line}
 use Rattle.rules.proofs.Standings.{no-mark, marked-listed, marked-unlisted}
+use Rattle.rules.proofs.Covers.{void-limited}
 use Rattle.taking.specs.Lacks.{fault, lackBy, lackOf}
 use Rattle.reading.specs.Gaps.{packed}
 
@@ -98,6 +99,12 @@ pub record Must (k : ℕ) (l : Line) : Type 0 where
   pub on : among k (l .kinds) ≡ true
   pub typ : l .typ < 256
   pub inst : l .inst < anyInstance
+  pub free : isFree l ≡ true
+
+free-must : (a c : Bool) → c ≡ true → a || not c ≡ true → a ≡ true
+free-must true c e z = refl
+free-must false true e z = z
+free-must false false e z = e
 
 pub must-line : (b : Book) → sound b ≡ true → (k v : ℕ) → EachMust k (λ j l. Must k l) (listing b v)
 must-line b fine k v j a c =
@@ -106,6 +113,7 @@ must-line b fine k v j a c =
       on = and-right (l .must) (among k (l .kinds)) c;
       typ = s .typ;
       inst = ltb-true _ _ (rw (and-left (l .must) (among k (l .kinds)) c) at (s .must));
+      free = free-must (isFree l) (l .must) (and-left (l .must) (among k (l .kinds)) c) (s .optional);
     }
 
 module _ {k : ℕ} {l : Line} (w : Must k l) (t i : ℕ) where
@@ -118,19 +126,19 @@ module _ {k : ℕ} {l : Line} (w : Must k l) (t i : ℕ) where
   lists-inst : lists k t i l ≡ true → i ≡ l .inst
   lists-inst e = sym (eqb-true _ _ (rw (ne-eqb (l .inst) anyInstance (λ z. omega (arith, w .inst)), or-false) at (lists-is k t i l e .inst)))
 
--- ---- its mark after an element: 2 if it was, or if the element is a kept one of its pair
+-- ---- its mark after an element: 2 if it was, or if the element is a kept one of its pair, which is never void
 
-after-two : (old s : ℕ) → eqb (markAfter old s) 2 ≡ eqb old 2 || eqb s kept
+after-two : (old s : ℕ) → eqb s void ≡ false → eqb (markAfter old s) 2 ≡ eqb old 2 || eqb s kept
 unfolding markAfter
-after-two old s = go (eqb s kept) (eqb old 2)
+after-two old s e = rw e (go (eqb s kept) (eqb old 2))
   where
-    go : (a c : Bool) → eqb (cond (a || c) 2 1) 2 ≡ c || a
+    go : (a c : Bool) → eqb (cond (a || false || c) 2 1) 2 ≡ c || a
     go true true = refl
     go true false = refl
     go false true = refl
     go false false = refl
 
-module _ (b : Book) (fine : sound b ≡ true) (k v : ℕ) (m : List ℕ) (h : Head) (len : length m ≡ mostLines)
+module _ (b : Book) (fine : sound b ≡ true) (k v : ℕ) (m : List ℕ) (h : Element) (len : length m ≡ mostLines)
     (j : ℕ) (lt : j < length (listing b v)) (w : Must k (getD (listing b v) j noLine)) where
   abbrev line : Line
   line = getD (listing b v) j noLine
@@ -142,11 +150,16 @@ module _ (b : Book) (fine : sound b ≡ true) (k v : ℕ) (m : List ℕ) (h : He
   abbrev new : ℕ
   new = markAfter (getD m at-line 0) (standing b k v m h)
 
+  never-void : at-line ≡ j → eqb (standing b k v m h) void ≡ false
+  never-void n = ne-eqb (standing b k v m h) void (λ s.
+      let x : true ≡ false = sym (w .free) ∙ (rw n at (void-limited b fine k v m h s)) in
+      let z : _≡_ {A = ℕ} 0 1 = cc in omega arith)
+
   mark-own : h .typ ≡ line .typ → h .inst ≡ line .inst → eqb (getD (marked b k v m h) j 0) 2 ≡ eqb (getD m j 0) 2 || eqb (standing b k v m h) kept
   mark-own et ei =
       let n : at-line ≡ j = seek-own (listing b v) k (h .typ) (h .inst) (level-distinct b fine v) j lt (lists-own w (h .typ) (h .inst) et ei) in
       let own = getD-set-same m at-line new 0 (rw n (omega (arith, level-size b fine v))) in
-      rw (marked-listed b k v m h (rw n (lt-ltb _ _ lt)), ← n, own) (after-two (getD m at-line 0) (standing b k v m h))
+      rw (marked-listed b k v m h (rw n (lt-ltb _ _ lt)), ← n, own) (after-two (getD m at-line 0) (standing b k v m h) (never-void n))
 
   mark-other : (h .typ ≡ line .typ → h .inst ≡ line .inst → ⊥) → getD (marked b k v m h) j 0 ≡ getD m j 0
   mark-other d = go (isListed b k v h) refl
@@ -169,7 +182,7 @@ module _ (b : Book) (fine : sound b ≡ true) (k v : ℕ) (m : List ℕ) (h : He
       go true false ec ed = rw (mark-other (λ x. eqb-false _ _ ed), or-false)
       go false d ec ed = rw (mark-other (λ x y. eqb-false _ _ ec x), or-false)
 
-pub with-mark : (b : Book) → sound b ≡ true → (k v : ℕ) (m : List ℕ) (p o at : ℕ) (h : Head) (es : List Item) → length m ≡ mostLines
+pub with-mark : (b : Book) → sound b ≡ true → (k v : ℕ) (m : List ℕ) (p o at : ℕ) (h : Element) (es : List Item) → length m ≡ mostLines
     → lackWith b k v m p o (itemOf b k v m p at h ∷ es) ≡ lackWith b k v (marked b k v m h) p o es
 unfolding lackWith hasKept
 with-mark b fine k v m p o at h es len =

@@ -10,6 +10,7 @@ use Rattle.rules.specs.Framing.{elementHeader, headOf}
 use Rattle.rules.specs.Listings.{book}
 use Rattle.rules.specs.Standing.{fresh, itemOf, marked, entered}
 use Rattle.rules.specs.Taking.{Out, cut, whole, after, inside}
+use Rattle.rules.specs.Frames.{Element, element, seen, framesOf}
 use Rattle.rules.specs.declared.Head.{Head}
 use Rattle.rules.proofs.Walks.{walk-nil, walk-cut, walk-more}
 use Rattle.rules.proofs.Covers.{group-level}
@@ -59,6 +60,7 @@ ends k v m p o base part at s h = walk-nil book k Held one (shut k) number v m p
 
 pub breaks : (k v : ℕ) (m : List ℕ) (p o base : ℕ) (part : List ℕ) (at : ℕ) (s : Held) → at < length part → headOf (drop at part) .whole ≡ false
     → scan k v m p o (base + at) (drop at part) s ≡ cut (base + at) s
+unfolding seen
 breaks k v m p o base part at s h e = walk-cut book k Held one (shut k) number v m p o (base + at) (drop at part) s (simp length-drop (omega arith)) e
 
 -- ---- entering
@@ -73,9 +75,13 @@ some-group k zero at xs s h = absurd (omega arith)
 some-group k (suc g) at xs s h = refl
 
 -- the level of an inside is one of the listings
-pub inner-low : (k v : ℕ) (m : List ℕ) (h : Head) (x : ℕ) → x ≡ entered book k v m h → x < length (book .levels)
+pub inner-low : (k v : ℕ) (m : List ℕ) (h : Element) (x : ℕ) → x ≡ entered book k v m h → x < length (book .levels)
 inner-low k v m h zero e = omega (arith, depth)
 inner-low k v m h (suc g) e = omega (arith, group-level book book-sound k v m h g (sym e))
+
+-- a part of a run is no longer than the run
+pub group-within : (part : List ℕ) (at len : ℕ) → length (take (at + 4 + len - (at + 4)) (drop (at + 4) part)) ≤ length part
+group-within part at len = simp (length-take, length-drop) (omega arith)
 
 -- ---- one element
 
@@ -84,12 +90,19 @@ module _ {k v : ℕ} {m m′ : List ℕ} {p : ℕ} {c : Counts} {rows rows₁ : 
     (hh : h ≡ headOf (drop at part))
     (hw : h .whole ≡ true)
     (fits : at + 4 + h .len ≤ length part)
-    (took : Took e m′ rows₁ k v m p (base + at) h (held c rows)) where
+    (took : Took e m′ rows₁ k v m p (base + at) (element h (framesOf (take (at + 4 + h .len - (at + 4)) (drop (at + 4) part)))) (held c rows)) where
   abbrev group : List ℕ
   group = take (at + 4 + h .len - (at + 4)) (drop (at + 4) part)
 
   pub group-length : length group ≡ h .len
   group-length = simp (length-take, length-drop) (omega arith)
+
+  -- it stands at the head of what is left
+  stands : seen (drop at part) ≡ element h (framesOf group)
+  unfolding seen
+  stands =
+      let n : at + 4 + h .len - (at + 4) ≡ h .len = omega arith in
+      rw (← hh, drop-drop 4 at part, n)
 
   unfolds : scan k v m p o (base + at) (drop at part) (held c rows)
       ≡ after (scanIn k (e .inner) (base + at) group (held (e .counts) rows₁)) (scan k v m′ p o (base + (at + 4 + h .len)) (drop (at + 4 + h .len) part))
@@ -100,8 +113,8 @@ module _ {k v : ℕ} {m m′ : List ℕ} {p : ℕ} {c : Counts} {rows rows₁ : 
       let i₃ : at + 4 + h .len ≡ at + (4 + h .len) = omega arith in
       let l₁ : drop 4 (drop at part) ≡ drop (at + 4) part = drop-drop 4 at part in
       let l₂ : drop (4 + h .len) (drop at part) ≡ drop (at + 4 + h .len) part = drop-drop (4 + h .len) at part ∙ ap (λ (n : ℕ). drop n part) (sym i₃) in
-      walk-more book k Held one (shut k) number v m p o (base + at) (drop at part) (held c rows) pos (ap (λ (x : Head). x .whole) (sym hh) ∙ hw)
-      ∙ rw (← hh, ← took .holds, ← took .marks, ← took .level, l₁, l₂, i₁, i₂)
+      walk-more book k Held one (shut k) number v m p o (base + at) (drop at part) (held c rows) pos (ap (λ (x : Element). x .whole) stands ∙ hw)
+      ∙ rw (stands, ← took .holds, ← took .marks, ← took .level, l₁, l₂, i₁, i₂)
 
   -- it is not entered
   pub passes : e .inner ≡ 0

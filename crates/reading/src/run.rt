@@ -36,34 +36,28 @@ pub(crate) fn read_run(
         if !h.whole {
             return Walk::Cut(place);
         }
+        let value = at + 4;
+        let next = value + h.len;
+        let own = &part[value..next];
         let e = element::take_one(
             kind,
             level,
             lines,
             h,
+            own,
             place,
             parent,
             &mut seen,
             rows,
             counts,
         );
-        let value = at + 4;
-        let next = value + h.len;
         let inner = e.inner;
         if inner == 0 {
             counts = e.counts;
             at = next;
             continue;
         }
-        match enter_group(
-            kind,
-            inner,
-            levels,
-            &part[value..next],
-            place,
-            rows,
-            e.counts,
-        ) {
+        match enter_group(kind, inner, levels, own, place, rows, e.counts) {
             Walk::Cut(q) => {
                 return Walk::Cut(q);
             }

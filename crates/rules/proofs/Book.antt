@@ -10,11 +10,15 @@ use lib.Dec.{ltb}
 use lib.ListN.{length}
 use Rattle.rules.specs.Types.{among, groups, isGroup}
 use Rattle.rules.specs.Listings.{Line, allKinds, levels, messages, book, seek, seekMessage, listing, messageOf}
-use Rattle.rules.specs.Sound.{everyLine, clash, distinct, everyLevel, everyMessage, sound}
+use Rattle.rules.specs.Sound.{everyLine, clash, distinct, everyLevel, everyMessage, sound, flatLines, flatLevels, flat}
 
 pub book-sound : sound book ≡ true
 unfolding sound book levels messages everyLevel everyMessage everyLine distinct clash isGroup groups
 book-sound = refl
+
+pub book-flat : flat book ≡ true
+unfolding flat flatLevels flatLines book levels listing everyLine
+book-flat = refl
 
 -- the pair t/i is listed in the body of a message on kind k
 abbrev pub listedIn : ℕ → ℕ → ℕ → ℕ → Bool

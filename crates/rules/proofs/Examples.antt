@@ -1,29 +1,42 @@
 -- Every example comes out as it is written: by computation. Assumes nothing.
 use mathlib.Core.Path.{_≡_, refl}
+use mathlib.Core.Bool.{true, false}
 use mathlib.Core.List.{[], _∷_, map}
 use Rattle.rules.specs.Framing.{version, flagP, flagT, messageType, lengthField, headerLength, headOf}
 use Rattle.rules.specs.Types.{parteds, leastByType, leastOf, groups, isGroup, wholeTypes, coversWhole, restTypes, coversRest}
 use Rattle.rules.specs.Listings.{levels, messages, book, seek, seekMessage, listing, messageOf, isMessage}
+use Rattle.rules.specs.Frames.{seen, filledBy, framesBy, framesOf, tally, exceeds, hides}
 use Rattle.rules.specs.Standing.{kept, unexpected, repeated, short, isShort, markAfter, standing, marked, entered, itemOf}
 use Rattle.rules.specs.Taking.{run, walk, itemsOf, bodyLevel, taken}
 use Rattle.rules.specs.Table.{rowsOf, keptRows, header, tableOf, laid}
 use Rattle.rules.specs.Verdicts.{check, first, shortChecks, hasKept, levelChecks, groupChecks, lackChecks, headerChecks, framingChecks, judgeChecks, maskChecks, judgeTable}
-use Rattle.rules.specs.Covered.{openOctets, zeroed, clearAll, masked, maskCopy}
+use Rattle.rules.specs.Covered.{ownCovered, coveredBy, coveredIn, covered, openOctets, zeroed, insideCleared, clearAll, masked, maskCopy}
 use Rattle.rules.specs.Emitting.{sizeOf, sizes, within, emitted}
 use Rattle.rules.specs.Cleaned.{received, pieces, cleaned, cleanChecks, cleanLength, cleanCopy}
 use Rattle.rules.specs.Values.{standingKept, isOf, tableRows, rowSpan, deskSpan, isPlain, seekPlain, plainSpan}
 use Rattle.rules.specs.Built.{given, givens, since, depthFirst, someRow, anyOf, reasons, built, buildChecks, headedChecks, buildLength, buildRoom}
-use Rattle.rules.specs.Examples.{examples, outcome, written}
+use Rattle.rules.specs.Examples.{examples, empties, report, mixed, voids, outcome, written}
 use Rattle.rules.specs.CleanExamples.{cleanings, cleanOutcome, cleanWritten}
 use Rattle.rules.specs.LookupExamples.{lookups, lookupOutcome, lookupWritten}
 use Rattle.rules.specs.BuildExamples.{builds, buildOutcome, buildWritten}
 
 pub a-to-m : map outcome examples ≡ map written examples
-unfolding examples version flagP flagT messageType lengthField headerLength headOf parteds leastByType leastOf wholeTypes coversWhole restTypes coversRest levels messages book seek seekMessage listing messageOf isMessage isShort markAfter standing marked entered itemOf run walk itemsOf bodyLevel taken rowsOf keptRows header tableOf laid check first shortChecks hasKept levelChecks groupChecks lackChecks headerChecks framingChecks judgeChecks maskChecks judgeTable openOctets zeroed clearAll masked maskCopy
+unfolding examples version flagP flagT messageType lengthField headerLength headOf parteds leastByType leastOf wholeTypes coversWhole restTypes coversRest levels messages book seek seekMessage listing messageOf isMessage isShort markAfter standing marked entered itemOf run walk itemsOf bodyLevel taken rowsOf keptRows header tableOf laid check first shortChecks hasKept levelChecks groupChecks lackChecks headerChecks framingChecks judgeChecks maskChecks judgeTable openOctets zeroed clearAll masked maskCopy seen filledBy framesBy framesOf tally exceeds insideCleared
 a-to-m = refl
 
+-- ten APNs stand, and eleven void: short ones counted
+pub all-voids : map outcome voids ≡ map written voids
+unfolding voids empties version flagP flagT messageType lengthField headerLength headOf parteds leastByType leastOf wholeTypes coversWhole restTypes coversRest levels messages book seek seekMessage listing messageOf isMessage isShort markAfter standing marked entered itemOf run walk itemsOf bodyLevel taken rowsOf keptRows header tableOf laid check first shortChecks hasKept levelChecks groupChecks lackChecks headerChecks framingChecks judgeChecks maskChecks judgeTable openOctets zeroed clearAll masked maskCopy seen filledBy framesBy framesOf tally exceeds insideCleared
+all-voids = refl
+
+-- which octets of the last of these are covered, from the header of its 180/0 on
+pub voids-covered : map (covered book 1 (report mixed)) (33 ∷ 36 ∷ 37 ∷ 40 ∷ 41 ∷ 42 ∷ 43 ∷ 46 ∷ 47 ∷ 48 ∷ 49 ∷ 52 ∷ 53 ∷ 57 ∷ 58 ∷ 97 ∷ [])
+    ≡ false ∷ false ∷ false ∷ false ∷ true ∷ true ∷ false ∷ false ∷ true ∷ true ∷ false ∷ false ∷ true ∷ true ∷ false ∷ false ∷ []
+unfolding empties version flagP flagT messageType lengthField headerLength headOf parteds leastByType leastOf wholeTypes coversWhole restTypes coversRest levels messages book seek seekMessage listing messageOf isMessage isShort markAfter standing marked entered itemOf run walk itemsOf bodyLevel taken check first shortChecks hasKept levelChecks groupChecks lackChecks headerChecks framingChecks seen filledBy framesBy framesOf tally exceeds hides ownCovered coveredBy coveredIn covered
+voids-covered = refl
+
 pub all-cleanings : map cleanOutcome cleanings ≡ map cleanWritten cleanings
-unfolding cleanings version flagP flagT messageType lengthField headerLength headOf parteds leastByType leastOf groups isGroup levels messages book seek seekMessage listing messageOf isMessage isShort markAfter standing marked entered itemOf run walk itemsOf bodyLevel taken laid check first shortChecks hasKept levelChecks groupChecks lackChecks headerChecks framingChecks sizeOf within emitted received pieces cleaned cleanChecks cleanLength cleanCopy
+unfolding cleanings empties version flagP flagT messageType lengthField headerLength headOf parteds leastByType leastOf groups isGroup levels messages book seek seekMessage listing messageOf isMessage isShort markAfter standing marked entered itemOf run walk itemsOf bodyLevel taken laid check first shortChecks hasKept levelChecks groupChecks lackChecks headerChecks framingChecks sizeOf within emitted received pieces cleaned cleanChecks cleanLength cleanCopy seen filledBy framesBy framesOf tally exceeds
 all-cleanings = refl
 
 pub all-lookups : map lookupOutcome lookups ≡ map lookupWritten lookups
@@ -31,7 +44,7 @@ unfolding lookups standingKept isOf tableRows rowSpan deskSpan isPlain seekPlain
 all-lookups = refl
 
 pub all-builds : map buildOutcome builds ≡ map buildWritten builds
-unfolding builds version flagP flagT messageType lengthField headerLength headOf parteds leastByType leastOf groups isGroup levels messages book seek seekMessage listing messageOf isMessage isShort markAfter standing marked entered itemOf run walk itemsOf bodyLevel taken keptRows laid check first shortChecks hasKept levelChecks groupChecks lackChecks headerChecks framingChecks judgeChecks sizeOf sizes within emitted given givens standingKept since depthFirst someRow anyOf reasons built buildChecks headedChecks buildLength buildRoom
+unfolding builds version flagP flagT messageType lengthField headerLength headOf parteds leastByType leastOf groups isGroup levels messages book seek seekMessage listing messageOf isMessage isShort markAfter standing marked entered itemOf run walk itemsOf bodyLevel taken keptRows laid check first shortChecks hasKept levelChecks groupChecks lackChecks headerChecks framingChecks judgeChecks sizeOf sizes within emitted given givens standingKept since depthFirst someRow anyOf reasons built buildChecks headedChecks buildLength buildRoom seen filledBy framesBy framesOf tally exceeds
 all-builds = refl
 
 -- a User Location with no part, with each of the six alone, with TAI and ECGI, with all, with the two highest bits alone, and with every bit

@@ -6,11 +6,12 @@ use mathlib.Core.Bool.{Bool, true, false, cond, _&&_}
 use mathlib.Core.List.{List}
 use Prim.Native.Nat.{ℕ, _+_, _-_, _%_, _≤_, _<_}
 use native.Mathlib.Omega.{arith}
-use borrow.Author.Tests.{leb-true}
+use borrow.Author.Tests.{leb-true, le-leb}
 use lib.Dec.{leb}
 use lib.ListN.{length, take, drop, length-take, length-drop}
 use Rattle.rules.specs.Framing.{octet, elementHeader, valueLength, firstOctet, noHead, headOf}
 use Rattle.rules.specs.Met.{At}
+use Rattle.rules.specs.Frames.{Element, element, seen, framesOf, valueOf}
 use Rattle.rules.specs.declared.Head.{Head}
 
 -- the head that stands where a whole element does
@@ -37,12 +38,33 @@ head-room xs e =
     let r = both-tests (leb elementHeader (length xs)) (leb (valueLength xs) (length xs - elementHeader)) (wholeHead xs) e in
     record { header = leb-true _ _ (r .0); value = leb-true _ _ (r .1) }
 
-pub fits : {xs : List ℕ} {h : Head} → At xs h → elementHeader + h .len ≤ length xs
-fits {xs} {h} a =
-    let w : headOf xs .whole ≡ true = rw (a .is) (a .whole) in
-    let r = head-room xs w in
-    let l : h .len ≡ valueLength xs = ap (λ (x : Head). x .len) (sym (a .is) ∙ head-is xs w) in
-    omega (arith, r .header, r .value)
+-- octets with room for what they say have a whole head
+pub room-whole : (xs : List ℕ) → elementHeader + valueLength xs ≤ length xs → headOf xs ≡ wholeHead xs
+unfolding headOf
+room-whole xs l = rw (le-leb elementHeader (length xs) (omega arith), le-leb (valueLength xs) (length xs - elementHeader) (omega arith))
+
+-- what is seen of an element says what its head says, and what stands inside its value
+module _ {xs : List ℕ} {h : Element} (a : At xs h) where
+  pub at-seen : h ≡ element (headOf xs) (framesOf (valueOf xs))
+  unfolding seen
+  at-seen = sym (a .is)
+
+  pub at-whole : headOf xs .whole ≡ true
+  at-whole = sym (ap (λ (x : Element). x .whole) at-seen) ∙ a .whole
+
+  pub at-is : h ≡ element (wholeHead xs) (framesOf (valueOf xs))
+  at-is = at-seen ∙ ap (λ (x : Head). element x (framesOf (valueOf xs))) (head-is xs at-whole)
+
+  pub at-within : h .within ≡ framesOf (take (h .len) (drop elementHeader xs))
+  at-within =
+      let l : h .len ≡ headOf xs .len = ap (λ (x : Element). x .len) at-seen in
+      ap (λ (x : Element). x .within) at-seen ∙ ap (λ (n : ℕ). framesOf (take n (drop elementHeader xs))) (sym l)
+
+  pub at-len : h .len ≡ valueLength xs
+  at-len = ap (λ (x : Element). x .len) at-seen ∙ ap (λ (x : Head). x .len) (head-is xs at-whole)
+
+  pub fits : elementHeader + h .len ≤ length xs
+  fits = let r = head-room xs at-whole in omega (arith, r .header, r .value, at-len)
 
 pub rest-length : (xs : List ℕ) (n : ℕ) → elementHeader + n ≤ length xs → elementHeader + n + length (drop (elementHeader + n) xs) ≡ length xs
 rest-length xs n h = simp length-drop (omega arith)

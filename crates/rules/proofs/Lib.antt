@@ -1,5 +1,6 @@
 pub mod Heads
 pub mod Walks
+pub mod Frames
 pub mod Mets
 pub mod Checks
 pub mod Lines
@@ -11,6 +12,8 @@ pub mod Header
 pub mod Readings
 pub mod Pairs
 pub mod Covers
+pub mod Late
+pub mod Hidden
 pub mod Book
 pub mod Reasons
 pub mod Numbers

@@ -13,7 +13,7 @@ use lib.ListN.{length, getD}
 use Rattle.rules.specs.Types.{among, isGroup}
 use Rattle.rules.specs.Listings.{Line, Message, Book, anyInstance, lists, seek, noLine, listing}
 use Rattle.rules.specs.Standing.{mostLines}
-use Rattle.rules.specs.Sound.{all, everyLine, lineTests, clash, distinct, levelTests, everyLevel, everyMessage, sound}
+use Rattle.rules.specs.Sound.{all, everyLine, lineTests, clash, distinct, levelTests, everyLevel, everyMessage, sound, isFree}
 
 -- ---- tests with two parts
 
@@ -191,6 +191,8 @@ pub record SoundLine (levels : ℕ) (l : Line) : Type 0 where
   pub inst : l .inst ≤ anyInstance
   pub must : not (l .must) || ltb (l .inst) anyInstance ≡ true
   pub every : ltb (l .inst) anyInstance || l .many ≡ true
+  pub limits : isFree l || isGroup (l .typ) ≡ true
+  pub optional : isFree l || not (l .must) ≡ true
 
 pub sound-line : (levels : ℕ) (l : Line) → all (lineTests levels l) ≡ true → SoundLine levels l
 sound-line levels l e =
@@ -201,4 +203,6 @@ sound-line levels l e =
       inst = leb-true _ _ (t .1 .1 .1 .0);
       must = t .1 .1 .1 .1 .0;
       every = t .1 .1 .1 .1 .1 .0;
+      limits = t .1 .1 .1 .1 .1 .1 .0;
+      optional = t .1 .1 .1 .1 .1 .1 .1 .0;
     }

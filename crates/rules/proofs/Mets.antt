@@ -9,16 +9,16 @@ use Prim.Native.Nat.{ℕ, zero, suc, _+_, _≤_, _<_}
 use native.Mathlib.Omega.{arith}
 use native.Mathlib.Nat.{add-zero}
 use lib.ListN.{length, take, drop, length-append}
-use Rattle.rules.specs.Framing.{elementHeader, headOf}
+use Rattle.rules.specs.Framing.{elementHeader}
 use Rattle.rules.specs.Listings.{Book}
 use Rattle.rules.specs.Standing.{Item, fresh, itemOf, marked, entered}
 use Rattle.rules.specs.Taking.{Out, cut, whole, after, walk, inside, addItem, atEnd, itemsOf}
 use Rattle.rules.specs.Met.{At, Met, ends, alone, group, CutAt, here, later, within, behind}
-use Rattle.rules.specs.declared.Head.{Head}
+use Rattle.rules.specs.Frames.{Element, seen}
 use Rattle.rules.proofs.Heads.{fits}
 use Rattle.rules.proofs.Walks.{inside-shorter, rest-shorter, walk-nil, walk-cut, walk-more, in-none, in-some}
 
-pub some-octets : {xs : List ℕ} {h : Head} → At xs h → 0 < length xs
+pub some-octets : {xs : List ℕ} {h : Element} → At xs h → 0 < length xs
 some-octets {xs} {h} a = omega (arith, fits a)
 
 module _ (b : Book) (k : ℕ) (S : Type 0) (one : S → Item → S) (shut : S → ℕ → List ℕ → ℕ → S) (number : S → ℕ) where
@@ -41,7 +41,7 @@ module _ (b : Book) (k : ℕ) (S : Type 0) (one : S → Item → S) (shut : S �
       let i = itemOf b k v m p at h in
       omega (arith, made-number t o (made b k S one shut number d at (one s i)), made-number d at (one s i), n-one s i, length-append is es)
 
-  module _ (v : ℕ) (m : List ℕ) (p o at : ℕ) (xs : List ℕ) (s : S) (h : Head) (a : At xs h) where
+  module _ (v : ℕ) (m : List ℕ) (p o at : ℕ) (xs : List ℕ) (s : S) (h : Element) (a : At xs h) where
     -- one element that is not entered
     pub walk-alone : entered b k v m h ≡ 0
         → walk b k S one shut number v m p o at xs s
@@ -101,12 +101,12 @@ module _ (b : Book) (k : ℕ) where
   abbrev pub Reads : ℕ → List ℕ → ℕ → ℕ → ℕ → List ℕ → Type 0
   Reads v m p n at xs = ((es : List Item) × Met b k v m p n at xs es) ⊎ ((q : ℕ) × CutAt b k v m n at xs q)
 
-  reads-alone : (v : ℕ) (m : List ℕ) (p n at : ℕ) (xs : List ℕ) (h : Head) → At xs h → entered b k v m h ≡ 0
+  reads-alone : (v : ℕ) (m : List ℕ) (p n at : ℕ) (xs : List ℕ) (h : Element) → At xs h → entered b k v m h ≡ 0
       → Reads v (marked b k v m h) p (n + 1) (at + elementHeader + h .len) (drop (elementHeader + h .len) xs) → Reads v m p n at xs
   reads-alone v m p n at xs h a e (inl (es, t)) = inl (itemOf b k v m p at h ∷ es, alone h a e t)
   reads-alone v m p n at xs h a e (inr (q, t)) = inr (q, later h a e t)
 
-  reads-group : (v : ℕ) (m : List ℕ) (p n at : ℕ) (xs : List ℕ) (h : Head) (g : ℕ) → At xs h → entered b k v m h ≡ suc g
+  reads-group : (v : ℕ) (m : List ℕ) (p n at : ℕ) (xs : List ℕ) (h : Element) (g : ℕ) → At xs h → entered b k v m h ≡ suc g
       → Reads (suc g) fresh (n + 1) (n + 1) (at + elementHeader) (take (h .len) (drop elementHeader xs))
       → ((c : ℕ) → Reads v (marked b k v m h) p c (at + elementHeader + h .len) (drop (elementHeader + h .len) xs)) → Reads v m p n at xs
   reads-group v m p n at xs h g a e (inr (q, t)) r = inr (q, within h g a e t)
@@ -119,29 +119,29 @@ module _ (b : Book) (k : ℕ) where
   abbrev Below : ℕ → Type 0
   Below f = (v : ℕ) (m : List ℕ) (p n at : ℕ) (xs : List ℕ) → length xs ≤ f → Reads v m p n at xs
 
-  turn-in : (f : ℕ) → Below f → (v : ℕ) (m : List ℕ) (p n at : ℕ) (xs : List ℕ) → length xs ≤ suc f → At xs (headOf xs)
-      → (g : ℕ) → entered b k v m (headOf xs) ≡ g → Reads v m p n at xs
+  turn-in : (f : ℕ) → Below f → (v : ℕ) (m : List ℕ) (p n at : ℕ) (xs : List ℕ) → length xs ≤ suc f → At xs (seen xs)
+      → (g : ℕ) → entered b k v m (seen xs) ≡ g → Reads v m p n at xs
   turn-in f rec v m p n at xs l a zero e =
-      let h = headOf xs in
+      let h = seen xs in
       reads-alone v m p n at xs h a e
       (rec v (marked b k v m h) p (n + 1) (at + elementHeader + h .len) (drop (elementHeader + h .len) xs) (omega (arith, rest-shorter (h .len) xs (some-octets a))))
   turn-in f rec v m p n at xs l a (suc g) e =
-      let h = headOf xs in
+      let h = seen xs in
       reads-group v m p n at xs h g a e
       (rec (suc g) fresh (n + 1) (n + 1) (at + elementHeader) (take (h .len) (drop elementHeader xs)) (omega (arith, inside-shorter (h .len) xs (some-octets a))))
       (λ c. rec v (marked b k v m h) p c (at + elementHeader + h .len) (drop (elementHeader + h .len) xs) (omega (arith, rest-shorter (h .len) xs (some-octets a))))
 
   turn : (f : ℕ) → Below f → (v : ℕ) (m : List ℕ) (p n at : ℕ) (xs : List ℕ) → length xs ≤ suc f → 0 < length xs
-      → (w : Bool) → headOf xs .whole ≡ w → Reads v m p n at xs
+      → (w : Bool) → seen xs .whole ≡ w → Reads v m p n at xs
   turn f rec v m p n at xs l pos false w = inr (at, here pos w)
-  turn f rec v m p n at xs l pos true w = turn-in f rec v m p n at xs l (record { is = refl; whole = w }) (entered b k v m (headOf xs)) refl
+  turn f rec v m p n at xs l pos true w = turn-in f rec v m p n at xs l (record { is = refl; whole = w }) (entered b k v m (seen xs)) refl
 
   reads-by : (f : ℕ) → Below f
   reads-by zero v m p n at [] l = inl ([], ends)
   reads-by (suc f) v m p n at [] l = inl ([], ends)
   reads-by zero v m p n at (x ∷ xs) l = absurd (omega arith)
   reads-by (suc f) v m p n at (x ∷ xs) l =
-      turn f (λ v′ m′ p′ n′ at′ ys c. reads-by f v′ m′ p′ n′ at′ ys c) v m p n at (x ∷ xs) l (omega arith) (headOf (x ∷ xs) .whole) refl
+      turn f (λ v′ m′ p′ n′ at′ ys c. reads-by f v′ m′ p′ n′ at′ ys c) v m p n at (x ∷ xs) l (omega arith) (seen (x ∷ xs) .whole) refl
 
   pub reads : (v : ℕ) (m : List ℕ) (p n at : ℕ) (xs : List ℕ) → Reads v m p n at xs
   reads v m p n at xs = reads-by (length xs) v m p n at xs (omega arith)

@@ -14,7 +14,7 @@ use lib.Seq.{getD-set-other}
 use Rattle.rules.specs.Listings.{Book, Line, anyInstance, noLine, seek, listing}
 use Rattle.rules.specs.Standing.{lineNumber, isListed, marked}
 use Rattle.rules.specs.Sound.{sound}
-use Rattle.rules.specs.declared.Head.{Head}
+use Rattle.rules.specs.Frames.{Element}
 use Rattle.rules.proofs.Lines.{seek-lists, Lists, lists-is, line-sound, sound-line}
 use Rattle.rules.proofs.Standings.{marked-listed, marked-unlisted}
 
@@ -44,7 +44,7 @@ module _ (b : Book) (fine : sound b ≡ true) (k v : ℕ) where
         (sym (c .typ) ∙ a .typ, sym (own j′ c) ∙ own j a)
 
   -- a mark that is there after an element was there before it, or is the element's own
-  pub new-mark : {t j : ℕ} → Once b k v t j → (m : List ℕ) (h : Head) → getD (marked b k v m h) (seek (listing b v) k t j) 0 ≢ 0
+  pub new-mark : {t j : ℕ} → Once b k v t j → (m : List ℕ) (h : Element) → getD (marked b k v m h) (seek (listing b v) k t j) 0 ≢ 0
       → (getD m (seek (listing b v) k t j) 0 ≢ 0) ⊎ ((h .typ ≡ t) × (h .inst ≡ j))
   new-mark {t} {j} w m h c = go (isListed b k v h) refl (ℕ-discrete (lineNumber b k v h) (seek (listing b v) k t j))
     where

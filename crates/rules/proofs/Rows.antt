@@ -14,14 +14,15 @@ use lib.Dec.{eqb}
 use lib.ListN.{length, take, drop, getD, length-append, length-drop, List·getD-eq-default, List·getD-append}
 use lib.Seq.{getD-drop, getD-take, getD-append-add}
 use Rattle.rules.specs.Sizes.{largestMessage, mostRows, rowNumbers}
-use Rattle.rules.specs.Framing.{elementHeader, octet, headOf, headerLength, flagT}
+use Rattle.rules.specs.Framing.{elementHeader, octet, headerLength, flagT}
 use Rattle.rules.specs.Listings.{Book}
-use Rattle.rules.specs.Standing.{Item, fresh, kept, itemOf, standing, marked, entered, valuePlace, valueEnd}
+use Rattle.rules.specs.Standing.{Item, fresh, kept, void, itemOf, standing, marked, entered, valuePlace, valueEnd}
 use Rattle.rules.specs.Taking.{Out, cut, whole, taken, bodyLevel}
 use Rattle.rules.specs.Table.{row, rowsOf, keptRows, noItem, nth}
 use Rattle.rules.specs.Met.{At, Met, ends, alone, group}
+use Rattle.rules.specs.Frames.{Element}
 use Rattle.rules.specs.declared.Head.{Head}
-use Rattle.rules.proofs.Heads.{head-is, fits, rest-length, value-length}
+use Rattle.rules.proofs.Heads.{head-is, at-seen, at-whole, at-len, fits, rest-length, value-length}
 use Rattle.rules.proofs.Mets.{whole-met}
 use Rattle.rules.proofs.Walked.{Walked, met-walked}
 use Rattle.rules.proofs.Standings.{stand-most}
@@ -111,12 +112,12 @@ octets-take (suc c) [] o j = omega arith
 octets-take (suc c) (x ∷ xs) o zero = o zero
 octets-take (suc c) (x ∷ xs) o (suc j) = octets-take c xs (λ i. o (suc i)) j
 
-pub head-octets : {xs : List ℕ} {h : Head} → Octets xs → At xs h → (h .typ < 256) × (h .inst < 16) × (h .len < 65536)
+pub head-octets : {xs : List ℕ} {h : Element} → Octets xs → At xs h → (h .typ < 256) × (h .inst < 16) × (h .len < 65536)
 head-octets {xs} {h} o a =
-    let e : headOf xs ≡ _ = head-is xs (rw (a .is) (a .whole)) in
-    let t : h .typ ≡ octet xs 0 = ap (λ (x : Head). x .typ) (sym (a .is) ∙ e) in
-    let i : h .inst ≡ octet xs 3 % 16 = ap (λ (x : Head). x .inst) (sym (a .is) ∙ e) in
-    let l : h .len ≡ octet xs 1 * 256 + octet xs 2 = ap (λ (x : Head). x .len) (sym (a .is) ∙ e) in
+    let e = head-is xs (at-whole a) in
+    let t : h .typ ≡ octet xs 0 = ap (λ (x : Element). x .typ) (at-seen a) ∙ ap (λ (x : Head). x .typ) e in
+    let i : h .inst ≡ octet xs 3 % 16 = ap (λ (x : Element). x .inst) (at-seen a) ∙ ap (λ (x : Head). x .inst) e in
+    let l : h .len ≡ octet xs 1 * 256 + octet xs 2 = at-len a in
     (omega (arith, o 0), omega arith, omega (arith, o 1, o 2))
 
 -- a row of a run that ends at `top`, among at most n rows
@@ -125,7 +126,7 @@ pub record Fits (n top : ℕ) (i : Item) : Type 0 where
   pub typ : i .typ < 256
   pub inst : i .inst < 16
   pub ends : valueEnd i ≤ top
-  pub stand : i .stand ≤ 3
+  pub stand : i .stand ≤ void
 
 fits-more : (n top n′ top′ : ℕ) (is : List Item) → n ≤ n′ → top ≤ top′ → Every (Fits n top) is → Every (Fits n′ top′) is
 fits-more n top n′ top′ is a c f =

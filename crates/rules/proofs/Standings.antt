@@ -13,8 +13,8 @@ use lib.Dec.{eqb, ltb}
 use lib.ListN.{length, getD, replicate, set, length-set}
 use lib.Seq.{getD-set-same, getD-set-other, set-out}
 use Rattle.rules.specs.Listings.{Book, Line, listing}
-use Rattle.rules.specs.Standing.{kept, unexpected, repeated, short, mostLines, lineNumber, lineIn, isListed, stoodEarlier, isShort, standing, markAfter, marked, entered}
-use Rattle.rules.specs.declared.Head.{Head}
+use Rattle.rules.specs.Standing.{kept, unexpected, repeated, short, void, mostLines, lineNumber, lineIn, isListed, stoodEarlier, isShort, isOver, standing, markAfter, marked, entered}
+use Rattle.rules.specs.Frames.{Element}
 
 -- before the first element of a level
 pub no-mark : (n j : ℕ) → _≡_ {A = ℕ} (getD (replicate n 0) j 0) 0
@@ -29,35 +29,39 @@ some-mark false false e = omega arith
 
 pub after-mark : (old s : ℕ) → markAfter old s ≢ 0
 unfolding markAfter
-after-mark old s = some-mark (eqb s kept) (eqb old 2)
+after-mark old s = some-mark (eqb s kept || eqb s void) (eqb old 2)
 
-module _ (b : Book) (k v : ℕ) (m : List ℕ) (h : Head) where
+module _ (b : Book) (k v : ℕ) (m : List ℕ) (h : Element) where
   pub data Case : ℕ → Type 0 where
     is-unexpected : isListed b k v h ≡ false → Case unexpected
     is-repeated : isListed b k v h ≡ true → lineIn b k v h .many ≡ false → stoodEarlier b k v m h ≡ true → Case repeated
     is-short : isListed b k v h ≡ true → not (lineIn b k v h .many) && stoodEarlier b k v m h ≡ false → isShort h ≡ true → Case short
-    is-kept : isListed b k v h ≡ true → not (lineIn b k v h .many) && stoodEarlier b k v m h ≡ false → isShort h ≡ false → Case kept
+    is-kept : isListed b k v h ≡ true → not (lineIn b k v h .many) && stoodEarlier b k v m h ≡ false → isShort h ≡ false → isOver b k v h ≡ false → Case kept
+    is-void : isListed b k v h ≡ true → not (lineIn b k v h .many) && stoodEarlier b k v m h ≡ false → isShort h ≡ false → isOver b k v h ≡ true → Case void
 
-  by-tests : (a c d e : Bool) → isListed b k v h ≡ a → lineIn b k v h .many ≡ c → stoodEarlier b k v m h ≡ d → isShort h ≡ e
-      → Case (cond (not a) unexpected (cond (not c && d) repeated (cond e short kept)))
-  by-tests false c d e wa wc wd we = is-unexpected wa
-  by-tests true false true e wa wc wd we = is-repeated wa wc wd
-  by-tests true false false true wa wc wd we = is-short wa (rw (wc, wd)) we
-  by-tests true false false false wa wc wd we = is-kept wa (rw (wc, wd)) we
-  by-tests true true d true wa wc wd we = is-short wa (rw wc) we
-  by-tests true true d false wa wc wd we = is-kept wa (rw wc) we
+  by-tests : (a c d e f : Bool) → isListed b k v h ≡ a → lineIn b k v h .many ≡ c → stoodEarlier b k v m h ≡ d → isShort h ≡ e → isOver b k v h ≡ f
+      → Case (cond (not a) unexpected (cond (not c && d) repeated (cond e short (cond f void kept))))
+  by-tests false c d e f wa wc wd we wf = is-unexpected wa
+  by-tests true false true e f wa wc wd we wf = is-repeated wa wc wd
+  by-tests true false false true f wa wc wd we wf = is-short wa (rw (wc, wd)) we
+  by-tests true false false false false wa wc wd we wf = is-kept wa (rw (wc, wd)) we wf
+  by-tests true false false false true wa wc wd we wf = is-void wa (rw (wc, wd)) we wf
+  by-tests true true d true f wa wc wd we wf = is-short wa (rw wc) we
+  by-tests true true d false false wa wc wd we wf = is-kept wa (rw wc) we wf
+  by-tests true true d false true wa wc wd we wf = is-void wa (rw wc) we wf
 
   pub standing-case : Case (standing b k v m h)
   unfolding standing
-  standing-case = by-tests (isListed b k v h) (lineIn b k v h .many) (stoodEarlier b k v m h) (isShort h) refl refl refl refl
+  standing-case = by-tests (isListed b k v h) (lineIn b k v h .many) (stoodEarlier b k v m h) (isShort h) (isOver b k v h) refl refl refl refl refl
 
-  case-most : (s : ℕ) → Case s → s ≤ 3
+  case-most : (s : ℕ) → Case s → s ≤ void
   case-most s (is-unexpected a) = omega arith
   case-most s (is-repeated a c d) = omega arith
   case-most s (is-short a c d) = omega arith
-  case-most s (is-kept a c d) = omega arith
+  case-most s (is-kept a c d f) = omega arith
+  case-most s (is-void a c d f) = omega arith
 
-  pub stand-most : standing b k v m h ≤ 3
+  pub stand-most : standing b k v m h ≤ void
   stand-most = case-most (standing b k v m h) standing-case
 
   -- only what is kept is entered

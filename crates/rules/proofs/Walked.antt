@@ -8,15 +8,15 @@ use Rattle.rules.specs.Framing.{elementHeader}
 use Rattle.rules.specs.Listings.{Book}
 use Rattle.rules.specs.Standing.{Item, fresh, itemOf, marked, entered}
 use Rattle.rules.specs.Met.{At, Met}
-use Rattle.rules.specs.declared.Head.{Head}
+use Rattle.rules.specs.Frames.{Element}
 
 -- level, marks, parent, rows before, place of the first octet left, octets left, elements
 pub data Walked (b : Book) (k : ℕ) : ℕ → List ℕ → ℕ → ℕ → ℕ → List ℕ → List Item → Type 0 where
   ends : {v : ℕ} {m : List ℕ} {p n at : ℕ} {xs : List ℕ} → Walked b k v m p n at xs []
-  alone : {v : ℕ} {m : List ℕ} {p n at : ℕ} {xs : List ℕ} {es : List Item} (h : Head) → At xs h → entered b k v m h ≡ 0
+  alone : {v : ℕ} {m : List ℕ} {p n at : ℕ} {xs : List ℕ} {es : List Item} (h : Element) → At xs h → entered b k v m h ≡ 0
       → Walked b k v (marked b k v m h) p (n + 1) (at + elementHeader + h .len) (drop (elementHeader + h .len) xs) es
       → Walked b k v m p n at xs (itemOf b k v m p at h ∷ es)
-  group : {v : ℕ} {m : List ℕ} {p n at : ℕ} {xs : List ℕ} {is es : List Item} (h : Head) (g : ℕ) → At xs h → entered b k v m h ≡ suc g
+  group : {v : ℕ} {m : List ℕ} {p n at : ℕ} {xs : List ℕ} {is es : List Item} (h : Element) (g : ℕ) → At xs h → entered b k v m h ≡ suc g
       → Walked b k (suc g) fresh (n + 1) (n + 1) (at + elementHeader) (take (h .len) (drop elementHeader xs)) is
       → Walked b k v (marked b k v m h) p (n + 1 + length is) (at + elementHeader + h .len) (drop (elementHeader + h .len) xs) es
       → Walked b k v m p n at xs (itemOf b k v m p at h ∷ (is ++ es))

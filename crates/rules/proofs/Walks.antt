@@ -7,11 +7,11 @@ use mathlib.Core.List.{List, [], _∷_}
 use Prim.Native.Nat.{ℕ, zero, suc, _+_, _-_, _≤_, _<_}
 use native.Mathlib.Omega.{arith}
 use lib.ListN.{length, take, drop, length-take, length-drop}
-use Rattle.rules.specs.Framing.{elementHeader, headOf}
+use Rattle.rules.specs.Framing.{elementHeader}
 use Rattle.rules.specs.Listings.{Book}
 use Rattle.rules.specs.Standing.{Item, fresh, itemOf, marked, entered}
 use Rattle.rules.specs.Taking.{Out, cut, whole, after, Walker, enter, step, run, walk, inside}
-use Rattle.rules.specs.declared.Head.{Head}
+use Rattle.rules.specs.Frames.{Element, seen}
 
 after-cong : {S : Type 0} (o : Out S) (f g : S → Out S) → ((s : S) → f s ≡ g s) → after o f ≡ after o g
 after-cong (cut q s) f g e = refl
@@ -37,7 +37,7 @@ module _ (b : Book) (k : ℕ) (S : Type 0) (one : S → Item → S) (shut : S �
   enter-cong f g n e zero at xs s h = refl
   enter-cong f g n e (suc v) at xs s h = e (suc v) fresh (number s) at (at + elementHeader) xs s h
 
-  step-cong : (f g : Walker b k S one shut number) (v : ℕ) (m : List ℕ) (p o at : ℕ) (xs : List ℕ) (h : Head) (s : S)
+  step-cong : (f g : Walker b k S one shut number) (v : ℕ) (m : List ℕ) (p o at : ℕ) (xs : List ℕ) (h : Element) (s : S)
       → Agree f g (length xs) → 0 < length xs → step b k S one shut number f v m p o at xs h s ≡ step b k S one shut number g v m p o at xs h s
   step-cong f g v m p o at xs h s e pos =
       let part = take (h .len) (drop elementHeader xs) in
@@ -58,7 +58,7 @@ module _ (b : Book) (k : ℕ) (S : Type 0) (one : S → Item → S) (shut : S �
   enough (suc f) zero v m p o at (x ∷ xs) s hf hg = absurd (omega arith)
   enough (suc f) (suc g) v m p o at [] s hf hg = refl
   enough (suc f) (suc g) v m p o at (x ∷ xs) s hf hg =
-      step-cong (run b k S one shut number f) (run b k S one shut number g) v m p o at (x ∷ xs) (headOf (x ∷ xs)) s
+      step-cong (run b k S one shut number f) (run b k S one shut number g) v m p o at (x ∷ xs) (seen (x ∷ xs)) s
       (λ v′ m′ p′ o′ at′ ys t lt. enough f g v′ m′ p′ o′ at′ ys t (omega arith) (omega arith))
       (omega arith)
 
@@ -68,23 +68,23 @@ module _ (b : Book) (k : ℕ) (S : Type 0) (one : S → Item → S) (shut : S �
   walk-nil v m p o at (x ∷ xs) s h = absurd (omega arith)
 
   walk-step : (v : ℕ) (m : List ℕ) (p o at : ℕ) (xs : List ℕ) (s : S) → 0 < length xs
-      → walk b k S one shut number v m p o at xs s ≡ step b k S one shut number (walk b k S one shut number) v m p o at xs (headOf xs) s
+      → walk b k S one shut number v m p o at xs s ≡ step b k S one shut number (walk b k S one shut number) v m p o at xs (seen xs) s
   unfolding walk run
   walk-step v m p o at [] s h = absurd (omega arith)
   walk-step v m p o at (x ∷ xs) s h =
-      step-cong (run b k S one shut number (length xs)) (walk b k S one shut number) v m p o at (x ∷ xs) (headOf (x ∷ xs)) s
+      step-cong (run b k S one shut number (length xs)) (walk b k S one shut number) v m p o at (x ∷ xs) (seen (x ∷ xs)) s
       (λ v′ m′ p′ o′ at′ ys t lt. enough (length xs) (length ys) v′ m′ p′ o′ at′ ys t (omega arith) (omega arith))
       h
 
-  pub walk-cut : (v : ℕ) (m : List ℕ) (p o at : ℕ) (xs : List ℕ) (s : S) → 0 < length xs → headOf xs .whole ≡ false
+  pub walk-cut : (v : ℕ) (m : List ℕ) (p o at : ℕ) (xs : List ℕ) (s : S) → 0 < length xs → seen xs .whole ≡ false
       → walk b k S one shut number v m p o at xs s ≡ cut at s
   walk-cut v m p o at xs s pos e = walk-step v m p o at xs s pos ∙ rw e
 
-  pub walk-more : (v : ℕ) (m : List ℕ) (p o at : ℕ) (xs : List ℕ) (s : S) → 0 < length xs → headOf xs .whole ≡ true
+  pub walk-more : (v : ℕ) (m : List ℕ) (p o at : ℕ) (xs : List ℕ) (s : S) → 0 < length xs → seen xs .whole ≡ true
       → walk b k S one shut number v m p o at xs s
       ≡ after
-      (inside b k S one shut number (entered b k v m (headOf xs)) at (take (headOf xs .len) (drop elementHeader xs)) (one s (itemOf b k v m p at (headOf xs))))
-      (walk b k S one shut number v (marked b k v m (headOf xs)) p o (at + elementHeader + headOf xs .len) (drop (elementHeader + headOf xs .len) xs))
+      (inside b k S one shut number (entered b k v m (seen xs)) at (take (seen xs .len) (drop elementHeader xs)) (one s (itemOf b k v m p at (seen xs))))
+      (walk b k S one shut number v (marked b k v m (seen xs)) p o (at + elementHeader + seen xs .len) (drop (elementHeader + seen xs .len) xs))
   unfolding inside
   walk-more v m p o at xs s pos e = walk-step v m p o at xs s pos ∙ rw e
 
@@ -131,7 +131,7 @@ module _ (b : Book) (k : ℕ)
   enter-beside f f′ e (suc v) o xs s s′ r = rw (r-number s s′ r) (e (suc v) fresh (number′ s′) o (o + elementHeader) xs s s′ r)
 
   step-beside : (f : Walker b k S one shut number) (f′ : Walker b k S′ one′ shut′ number′) → Beside f f′
-      → (v : ℕ) (m : List ℕ) (p o at : ℕ) (xs : List ℕ) (h : Head) (s : S) (s′ : S′) → R s s′
+      → (v : ℕ) (m : List ℕ) (p o at : ℕ) (xs : List ℕ) (h : Element) (s : S) (s′ : S′) → R s s′
       → Alike R (step b k S one shut number f v m p o at xs h s) (step b k S′ one′ shut′ number′ f′ v m p o at xs h s′)
   step-beside f f′ e v m p o at xs h s s′ r =
       let i = itemOf b k v m p at h in
@@ -146,7 +146,7 @@ module _ (b : Book) (k : ℕ)
   run-beside zero v m p o at xs s s′ r = wholes (r-shut s s′ v m o r)
   run-beside (suc n) v m p o at [] s s′ r = wholes (r-shut s s′ v m o r)
   run-beside (suc n) v m p o at (x ∷ xs) s s′ r =
-      step-beside (run b k S one shut number n) (run b k S′ one′ shut′ number′ n) (run-beside n) v m p o at (x ∷ xs) (headOf (x ∷ xs)) s s′ r
+      step-beside (run b k S one shut number n) (run b k S′ one′ shut′ number′ n) (run-beside n) v m p o at (x ∷ xs) (seen (x ∷ xs)) s s′ r
 
   pub alongside : (v : ℕ) (m : List ℕ) (p o at : ℕ) (xs : List ℕ) (s : S) (s′ : S′) → R s s′
       → Alike R (walk b k S one shut number v m p o at xs s) (walk b k S′ one′ shut′ number′ v m p o at xs s′)

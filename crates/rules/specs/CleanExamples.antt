@@ -5,7 +5,7 @@ use lib.ListN.{length, take, drop, set, replicate}
 use Rattle.rules.specs.Listings.{book}
 use Rattle.rules.specs.Verdicts.{accepted, refused, refusedAt}
 use Rattle.rules.specs.Cleaned.{cleanVerdict, cleanLength, cleanCopy}
-use Rattle.rules.specs.Examples.{messageG, headG, messageK, headF, firstF, secondF}
+use Rattle.rules.specs.Examples.{messageG, headG, messageK, headF, firstF, secondF, report, empties}
 use Rattle.rules.specs.declared.Verdict.{Verdict}
 
 -- the kind, the message and how many sevens are lent; then the verdict, the length, and what stands before the sevens that stay
@@ -48,6 +48,8 @@ cleanings =
     cleaning 1 (headF ++ secondF ++ firstF) 0 (refusedAt 11 67 8 3 0) 0 [] ∷
     -- G has nothing set aside
     cleaning 1 messageG 22 accepted 21 messageG ∷
+    -- a void report goes whole
+    cleaning 1 (report (empties 11 [])) 34 accepted 33 (set (take 33 (report [])) 3 0x1D) ∷
     -- K on kind 3: 12, as the judge says; on no kind: 1
     cleaning 3 messageK 23 (refusedAt 12 70 21 183 0) 0 [] ∷
     cleaning 4 messageK 23 (refused 1 0) 0 [] ∷

@@ -6,6 +6,8 @@ use lib.Dec.{eqb, ltb, leb}
 use lib.ListN.{length, take, drop, replicate}
 use Rattle.rules.specs.Types.{coversWhole, coversRest}
 use Rattle.rules.specs.Listings.{Book}
+use Rattle.rules.specs.Framing.{elementHeader}
+use Rattle.rules.specs.Frames.{Frame, hides}
 use Rattle.rules.specs.Standing.{Item, kept, unexpected, repeated, short, valuePlace, valueEnd}
 use Rattle.rules.specs.Table.{laid}
 use Rattle.rules.specs.Verdicts.{first, refuses, framingChecks, items, maskVerdict}
@@ -23,9 +25,17 @@ isAside s = eqb s unexpected || eqb s repeated
 abbrev pub coversButFirst : Item → ℕ → Bool
 coversButFirst i j = coversRest (i .typ) && (eqb (i .stand) kept || eqb (i .stand) short) && not (eqb j (valuePlace i))
 
+-- octet j is covered for the sake of the row i's own type and standing
+unfoldable pub ownCovered : Item → ℕ → Bool
+ownCovered i j = isValueOctet i j && (isAside (i .stand) || coversWhole (i .typ) || coversButFirst i j)
+
+-- CR 8: each value octet of the elements inside a void group, whose headers stay open
+abbrev pub coversInside : Item → ℕ → Bool
+coversInside i j = isValueOctet i j && hides (i .hidden) (j - valuePlace i)
+
 -- octet j is covered for the sake of the row i
 unfoldable pub coveredBy : Item → ℕ → Bool
-coveredBy i j = isValueOctet i j && (isAside (i .stand) || coversWhole (i .typ) || coversButFirst i j)
+coveredBy i j = ownCovered i j || coversInside i j
 
 unfoldable pub coveredIn : List Item → ℕ → Bool
 coveredIn [] j = false
@@ -39,15 +49,24 @@ covered b k m j = not (refuses (first (framingChecks b k m))) && coveredIn (item
 
 -- how many leading octets of a value of so many octets are left open, by its type and standing
 unfoldable pub openOctets : ℕ → ℕ → ℕ → ℕ
-openOctets t s n = cond (isAside s || coversWhole t) 0 (cond (coversRest t && ltb 0 n) 1 n)
+openOctets t s n = cond (isAside s || coversWhole t) 0 (cond (coversRest t && (eqb s kept || eqb s short) && ltb 0 n) 1 n)
 
 -- n octets from a on made zero
 unfoldable pub zeroed : List ℕ → ℕ → ℕ → List ℕ
 zeroed xs a n = take a xs ++ (replicate n 0 ++ drop (a + n) xs)
 
 -- the part of a row's value that is not open made zero
+abbrev pub ownCleared : List ℕ → Item → List ℕ
+ownCleared xs i = zeroed xs (valuePlace i + openOctets (i .typ) (i .stand) (i .len)) (i .len - openOctets (i .typ) (i .stand) (i .len))
+
+-- the values of elements that stand one after another from a on made zero
+unfoldable pub insideCleared : List ℕ → ℕ → List Frame → List ℕ
+insideCleared xs a [] = xs
+insideCleared xs a (f ∷ fs) = insideCleared (zeroed xs (a + elementHeader) (f .len)) (a + elementHeader + f .len) fs
+
+-- a row's own value, and those inside it if it is void
 abbrev pub cleared : List ℕ → Item → List ℕ
-cleared xs i = zeroed xs (valuePlace i + openOctets (i .typ) (i .stand) (i .len)) (i .len - openOctets (i .typ) (i .stand) (i .len))
+cleared xs i = insideCleared (ownCleared xs i) (valuePlace i) (i .hidden)
 
 unfoldable pub clearAll : List ℕ → List Item → List ℕ
 clearAll xs [] = xs

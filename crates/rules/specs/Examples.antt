@@ -1,5 +1,5 @@
 -- The examples A to M: what is asked, and what has to come out. Assumes nothing.
-use Prim.Native.Nat.{ℕ}
+use Prim.Native.Nat.{ℕ, zero, suc, _+_}
 use mathlib.Core.Bool.{Bool, true, false, cond}
 use mathlib.Core.List.{List, [], _∷_, _++_}
 use lib.ListN.{length, take, drop, set, replicate}
@@ -29,12 +29,15 @@ pub record Outcome : Type 0 where
 abbrev pub sevens : List ℕ
 sevens = replicate 25 7
 
+abbrev pub asked : Call → ℕ → ℕ → List ℕ → List ℕ → Verdict → List ℕ → Example
+asked c x k m lent v numbers =
+    record { letter = x; call = c; kind = k; message = m; lent = lent; verdict = v; left = numbers ++ drop (length numbers) lent }
+
 abbrev pub judge : ℕ → ℕ → List ℕ → Verdict → List ℕ → Example
-judge x k m v numbers =
-    record { letter = x; call = judging; kind = k; message = m; lent = sevens; verdict = v; left = numbers ++ drop (length numbers) sevens }
+judge x k m v numbers = asked judging x k m sevens v numbers
 
 abbrev pub mask : ℕ → ℕ → List ℕ → Verdict → List ℕ → Example
-mask x k m v copy = record { letter = x; call = masking; kind = k; message = m; lent = sevens; verdict = v; left = copy ++ drop (length copy) sevens }
+mask x k m v copy = asked masking x k m sevens v copy
 
 -- ---- the messages
 
@@ -110,6 +113,74 @@ examples =
     judge 0x15 3 messageK (refusedAt 12 70 21 183 0) [] ∷
     -- M: the copy ends `00 00`
     mask 0x16 1 messageM accepted (take 17 messageM ++ (0x00 ∷ 0x00 ∷ [])) ∷
+    []
+
+-- ---- CR 8: an overload report of 67, on kind 1, by what its 180/0 holds
+
+-- a 180/0 of so many octets, behind 2/0 and 93/0; so many octets stand behind the header's length
+abbrev pub reportOf : ℕ → ℕ → List ℕ → List ℕ
+reportOf total len inside =
+    0x48 ∷ 0x43 ∷ 0x00 ∷ total ∷ 0x00 ∷ 0x00 ∷ 0x00 ∷ 0x01 ∷ 0x00 ∷ 0x00 ∷ 0x02 ∷ 0x00 ∷
+    0x02 ∷ 0x00 ∷ 0x02 ∷ 0x00 ∷ 0x10 ∷ 0x00 ∷
+    0x5D ∷ 0x00 ∷ 0x0B ∷ 0x00 ∷ 0x49 ∷ 0x00 ∷ 0x01 ∷ 0x00 ∷ 0x05 ∷ 0x02 ∷ 0x00 ∷ 0x02 ∷ 0x00 ∷ 0x10 ∷ 0x00 ∷
+    0xB4 ∷ 0x00 ∷ len ∷ 0x00 ∷ inside
+
+abbrev pub report : List ℕ → List ℕ
+report inside = reportOf (33 + length inside) (length inside) inside
+
+-- so many elements 71/0 without a value
+unfoldable pub empties : ℕ → List ℕ → List ℕ
+empties zero rest = rest
+empties (suc n) rest = 0x47 ∷ 0x00 ∷ 0x00 ∷ 0x00 ∷ empties n rest
+
+-- a table of sevens with room for five rows
+abbrev pub roomy : List ℕ
+roomy = replicate 36 7
+
+-- the table of a void report whose 180/0 has so many octets: one row for it, and none inside
+abbrev pub voidTable : ℕ → List ℕ
+voidTable n =
+    head 5 4 6 36 67 1 (line 0 2 0 16 2 0 (line 0 93 0 22 11 0 (line 2 73 0 26 1 0 (line 2 2 0 31 2 0 (line 0 180 0 37 n 4 [])))))
+
+-- eleven elements 71/0, and a 79/0 and a 93/0 with one more inside; and the same with their values zero
+abbrev pub mixed : List ℕ
+mixed =
+    0x47 ∷ 0x00 ∷ 0x02 ∷ 0x00 ∷ 0x61 ∷ 0x62 ∷ 0x4F ∷ 0x00 ∷ 0x02 ∷ 0xF0 ∷ 0x01 ∷ 0x0A ∷ 0x5D ∷ 0x00 ∷ 0x05 ∷ 0x00 ∷ 0x47 ∷ 0x00 ∷ 0x01 ∷ 0x00 ∷ 0x63 ∷
+    empties 10 []
+
+abbrev pub mixedMasked : List ℕ
+mixedMasked =
+    0x47 ∷ 0x00 ∷ 0x02 ∷ 0x00 ∷ 0x00 ∷ 0x00 ∷ 0x4F ∷ 0x00 ∷ 0x02 ∷ 0xF0 ∷ 0x00 ∷ 0x00 ∷ 0x5D ∷ 0x00 ∷ 0x05 ∷ 0x00 ∷ 0x00 ∷ 0x00 ∷ 0x00 ∷ 0x00 ∷ 0x00 ∷
+    empties 10 []
+
+-- refused, with room enough for every row
+abbrev pub turned : ℕ → List ℕ → Verdict → Example
+turned x m v = asked judging x 1 m (replicate 120 7) v []
+
+unfoldable pub voids : List Example
+voids =
+    -- eleven elements 71/0, ten of them short, and no mandatory pair: accepted, fifth row 0 180 0 37 45 4
+    asked judging 0x17 1 (reportOf 0x4E 0x2D (empties 10 (0x47 ∷ 0x00 ∷ 0x01 ∷ 0x00 ∷ 0x61 ∷ []))) roomy accepted (voidTable 45) ∷
+    -- its copy: the one value octet inside is zero, the headers stay
+    asked masking 0x17 1 (reportOf 0x4E 0x2D (empties 10 (0x47 ∷ 0x00 ∷ 0x01 ∷ 0x00 ∷ 0x61 ∷ []))) (replicate 82 7) accepted
+    (reportOf 0x4E 0x2D (empties 10 (0x47 ∷ 0x00 ∷ 0x01 ∷ 0x00 ∷ 0x00 ∷ []))) ∷
+    -- ten are entered: 12, 70, 33, 183, 0
+    turned 0x18 (report (empties 10 [])) (refusedAt 12 70 33 183 0) ∷
+    -- the eleventh is a 71/1, or stands in a 93/0: not counted
+    turned 0x18 (report (empties 10 (0x47 ∷ 0x00 ∷ 0x00 ∷ 0x01 ∷ []))) (refusedAt 12 70 33 183 0) ∷
+    turned 0x18 (report (empties 10 (0x5D ∷ 0x00 ∷ 0x04 ∷ 0x00 ∷ empties 1 []))) (refusedAt 12 70 33 183 0) ∷
+    -- eleven in a 180/1 void nothing
+    turned 0x18 (set (report (empties 11 [])) 36 0x01) (refusedAt 12 70 33 183 0) ∷
+    -- a short 183/0 before ten: 11, 67, 37, 183, 0; before eleven: accepted
+    turned 0x19 (report (0xB7 ∷ 0x00 ∷ 0x00 ∷ 0x00 ∷ empties 10 [])) (refusedAt 11 67 37 183 0) ∷
+    asked judging 0x19 1 (report (0xB7 ∷ 0x00 ∷ 0x00 ∷ 0x00 ∷ empties 11 [])) roomy accepted (voidTable 48) ∷
+    -- eleven, and one octet more inside, or an element too long by one: 9, 67, 81, 0, 0
+    turned 0x1A (report (empties 11 (0x47 ∷ []))) (refusedAt 9 67 81 0 0) ∷
+    turned 0x1A (report (empties 11 (0x47 ∷ 0x00 ∷ 0x01 ∷ 0x00 ∷ []))) (refusedAt 9 67 81 0 0) ∷
+    -- a second 180/0 behind a void one is no repeat, and has its own mandatory pairs: 12, 70, 81, 183, 0
+    turned 0x1B (reportOf 0x51 0x2C (empties 11 (0xB4 ∷ 0x00 ∷ 0x00 ∷ 0x00 ∷ []))) (refusedAt 12 70 81 183 0) ∷
+    -- every value inside is covered whole, whatever its type, and no header
+    asked masking 0x1C 1 (report mixed) (replicate 98 7) accepted (report mixedMasked) ∷
     []
 
 -- what comes out, and what is written

@@ -2,9 +2,11 @@ pub mod Sizes
 pub mod Framing
 pub mod Types
 pub mod Listings
+pub mod Frames
 pub mod Standing
 pub mod Taking
 pub mod Met
+pub mod Late
 pub mod Table
 pub mod Verdicts
 pub mod Covered

@@ -6,7 +6,13 @@ use lib.Dec.{eqb, ltb}
 use lib.ListN.{length, getD}
 use Rattle.rules.specs.Types.{among}
 
--- a pair t/i: is it mandatory, may it repeat, the kinds that list it, and the level of its inside (0: it is no group)
+-- the most elements of a pair that may stand directly inside a group
+pub record Limit : Type 0 where
+  pub typ : ℕ
+  pub inst : ℕ
+  pub most : ℕ
+
+-- a pair t/i: is it mandatory, may it repeat, the kinds that list it, the level of its inside (0: it is no group), and the limits on what that holds
 pub record Line : Type 0 where
   pub typ : ℕ
   pub inst : ℕ
@@ -14,6 +20,7 @@ pub record Line : Type 0 where
   pub many : Bool
   pub kinds : List ℕ
   pub inside : ℕ
+  pub limits : List Limit
 
 -- a message type: has it T = 1, and the level of its body
 pub record Message : Type 0 where
@@ -39,23 +46,28 @@ anyInstance = 16
 
 -- may be absent, once, on every kind, no group
 abbrev pub pair : ℕ → ℕ → Line
-pair t i = record { typ = t; inst = i; must = false; many = false; kinds = allKinds; inside = 0 }
+pair t i = record { typ = t; inst = i; must = false; many = false; kinds = allKinds; inside = 0; limits = [] }
 
 -- the same, and a group, whose inside is that level
 abbrev pub group : ℕ → ℕ → ℕ → Line
-group t i v = record { typ = t; inst = i; must = false; many = false; kinds = allKinds; inside = v }
+group t i v = record { typ = t; inst = i; must = false; many = false; kinds = allKinds; inside = v; limits = [] }
 
 -- M
 abbrev pub must : Line → Line
-must l = record { typ = l .typ; inst = l .inst; must = true; many = l .many; kinds = l .kinds; inside = l .inside }
+must l = record { typ = l .typ; inst = l .inst; must = true; many = l .many; kinds = l .kinds; inside = l .inside; limits = l .limits }
 
 -- *
 abbrev pub many : Line → Line
-many l = record { typ = l .typ; inst = l .inst; must = l .must; many = true; kinds = l .kinds; inside = l .inside }
+many l = record { typ = l .typ; inst = l .inst; must = l .must; many = true; kinds = l .kinds; inside = l .inside; limits = l .limits }
 
 -- on these kinds only
 abbrev pub only : List ℕ → Line → Line
-only ks l = record { typ = l .typ; inst = l .inst; must = l .must; many = l .many; kinds = ks; inside = l .inside }
+only ks l = record { typ = l .typ; inst = l .inst; must = l .must; many = l .many; kinds = ks; inside = l .inside; limits = l .limits }
+
+-- voided by more than n elements t/i directly inside
+abbrev pub atMost : ℕ → ℕ → ℕ → Line → Line
+atMost n t i l =
+    record { typ = l .typ; inst = l .inst; must = l .must; many = l .many; kinds = l .kinds; inside = l .inside; limits = record { typ = t; inst = i; most = n } ∷ l .limits }
 
 -- a body's listing has the private extension at its end; a group's has not
 abbrev pub body : List Line → List Line
@@ -170,7 +182,7 @@ levels =
     must (many (group 93 0 in-93/0-of-67)) ∷
     pair 3 0 ∷
     pair 77 0 ∷
-    many (group 180 0 in-180/0-of-67) ∷
+    many (atMost 10 71 0 (group 180 0 in-180/0-of-67)) ∷
     only (1 ∷ 2 ∷ []) (group 180 1 in-180) ∷
     []) ∷
     -- level 10: in 93/0 of 67
@@ -257,7 +269,7 @@ seek (l ∷ ls) k t i = cond (lists k t i l) 0 (suc (seek ls k t i))
 
 -- what is said of a pair that is not listed
 abbrev pub noLine : Line
-noLine = record { typ = 0; inst = 0; must = false; many = false; kinds = []; inside = 0 }
+noLine = record { typ = 0; inst = 0; must = false; many = false; kinds = []; inside = 0; limits = [] }
 
 abbrev pub noMessage : Message
 noMessage = message 0 false 0

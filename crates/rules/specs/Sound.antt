@@ -5,7 +5,7 @@ use mathlib.Core.List.{List, [], _∷_}
 use lib.Dec.{eqb, ltb, leb}
 use lib.ListN.{length}
 use Rattle.rules.specs.Types.{isGroup}
-use Rattle.rules.specs.Listings.{Line, Message, Book, anyInstance}
+use Rattle.rules.specs.Listings.{Line, Message, Book, Limit, anyInstance, listing}
 use Rattle.rules.specs.Standing.{mostLines}
 
 abbrev pub all : List Bool → Bool
@@ -16,8 +16,16 @@ unfoldable pub everyLine : (Line → Bool) → List Line → Bool
 everyLine test [] = true
 everyLine test (l ∷ ls) = test l && everyLine test ls
 
+-- a line has no limits
+abbrev pub noLimits : List Limit → Bool
+noLimits [] = true
+noLimits (x ∷ xs) = false
+
+abbrev pub isFree : Line → Bool
+isFree l = noLimits (l .limits)
+
 -- a line has an inside exactly where its type is a group, at a level that there is; its type is an octet; a pair that is mandatory has one instance, of four bits;
--- and a line for every instance may repeat, since a mark is a line's and not an instance's
+-- a line for every instance may repeat, since a mark is a line's and not an instance's; and only a group that may be absent has limits
 abbrev pub lineTests : ℕ → Line → List Bool
 lineTests levels l =
     Bool·beq (isGroup (l .typ)) (not (eqb (l .inside) 0))
@@ -26,6 +34,8 @@ lineTests levels l =
     ∷ leb (l .inst) anyInstance
     ∷ (not (l .must) || ltb (l .inst) anyInstance)
     ∷ (ltb (l .inst) anyInstance || l .many)
+    ∷ (isFree l || isGroup (l .typ))
+    ∷ (isFree l || not (l .must))
     ∷ []
 
 -- two lines list one pair
@@ -49,6 +59,17 @@ everyLevel levels (ls ∷ more) = all (levelTests levels ls) && everyLevel level
 unfoldable pub everyMessage : ℕ → List Message → Bool
 everyMessage levels [] = true
 everyMessage levels (x ∷ xs) = (not (eqb (x .body) 0) && ltb (x .body) levels) && everyMessage levels xs
+
+-- the inside of a line with limits has no group
+unfoldable pub flatLines : Book → List Line → Bool
+flatLines b ls = everyLine (λ l. isFree l || everyLine (λ l′. eqb (l′ .inside) 0) (listing b (l .inside))) ls
+
+unfoldable pub flatLevels : Book → List (List Line) → Bool
+flatLevels b [] = true
+flatLevels b (ls ∷ more) = flatLines b ls && flatLevels b more
+
+unfoldable pub flat : Book → Bool
+flat b = flatLevels b (b .levels)
 
 unfoldable pub sound : Book → Bool
 sound b = everyLevel (length (b .levels)) (b .levels) && everyMessage (length (b .levels)) (b .messages)

@@ -40,7 +40,7 @@ fitting n is = take (n / rowNumbers) is
 
 -- element number j of those taken, counted from 0; past their end an element of zeros
 abbrev pub noItem : Item
-noItem = record { parent = 0; place = 0; typ = 0; inst = 0; len = 0; stand = 0; must = false; inside = 0 }
+noItem = record { parent = 0; place = 0; typ = 0; inst = 0; len = 0; stand = 0; must = false; inside = 0; hidden = [] }
 
 abbrev pub nth : List Item → ℕ → Item
 nth is j = getD is j noItem

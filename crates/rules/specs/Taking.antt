@@ -4,10 +4,10 @@ use Prim.Native.Nat.{ℕ, zero, suc, _+_}
 use mathlib.Core.Bool.{Bool, true, false, cond}
 use mathlib.Core.List.{List, [], _∷_, _++_}
 use lib.ListN.{length, take, drop}
-use Rattle.rules.specs.Framing.{elementHeader, headOf, headerLength, messageType}
+use Rattle.rules.specs.Framing.{elementHeader, headerLength, messageType}
 use Rattle.rules.specs.Listings.{Book, Message, messageOf}
 use Rattle.rules.specs.Standing.{Item, fresh, itemOf, marked, entered}
-use Rattle.rules.specs.declared.Head.{Head}
+use Rattle.rules.specs.Frames.{Element, seen}
 
 -- A run of elements is cut at the place of an element or remnant that does not lie in what its level has left, or it is whole.
 pub data Out (S : Type 0) : Type 0 where
@@ -29,7 +29,7 @@ module _ (b : Book) (k : ℕ) (S : Type 0) (one : S → Item → S) (shut : S �
   enter rec (suc v) o xs s = rec (suc v) fresh (number s) o (o + elementHeader) xs s
 
   -- one element and its inside, measured against what its own level has left; then what follows
-  abbrev pub step : Walker → ℕ → List ℕ → ℕ → ℕ → ℕ → List ℕ → Head → S → Out S
+  abbrev pub step : Walker → ℕ → List ℕ → ℕ → ℕ → ℕ → List ℕ → Element → S → Out S
   step rec v m p o at xs h s =
       cond (h .whole)
       (after
@@ -41,7 +41,7 @@ module _ (b : Book) (k : ℕ) (S : Type 0) (one : S → Item → S) (shut : S �
   unfoldable pub run : ℕ → Walker
   run zero v m p o at xs s = whole (shut s v m o)
   run (suc f) v m p o at [] s = whole (shut s v m o)
-  run (suc f) v m p o at (x ∷ xs) s = step (run f) v m p o at (x ∷ xs) (headOf (x ∷ xs)) s
+  run (suc f) v m p o at (x ∷ xs) s = step (run f) v m p o at (x ∷ xs) (seen (x ∷ xs)) s
 
   unfoldable pub walk : Walker
   walk v m p o at xs s = run (length xs) v m p o at xs s

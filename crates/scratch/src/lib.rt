@@ -38,7 +38,7 @@ fn start(message: &[u8]) -> usize
 }
 
 // Two octets as a number, high octet first.
-fn two(message: &[u8], at: usize) -> usize
+pub fn two(message: &[u8], at: usize) -> usize
     requires { ⌜ at + 1 < length (now message) ⌝ }
     ensures { λ r. ⌜ Two (now (message .entry)) at r ⌝ }
 {

@@ -5,32 +5,38 @@ ghost use lib.Dec.{eqb};
 ghost use Rattle.rules.specs.Standing.{markAfter};
 ghost use Rattle.standings.specs.Faults.{firstFault, lesser};
 
-fn sized(short: bool) -> u8
-    ensures { λ r. ⌜ r ≡ cond short 3 0 ⌝ }
+fn sized(short: bool, over: bool) -> u8
+    ensures { λ r. ⌜ r ≡ cond short 3 (cond over 4 0) ⌝ }
 {
     if short {
         return 3;
     }
+    if over {
+        return 4;
+    }
     0
 }
 
-// A repeat where its pair may stand once and has stood, short or not; else by its size.
-pub fn listed_standing(many: bool, mark: u8, short: bool) -> u8
-    ensures { λ r. ⌜ r ≡ cond (not many && not (eqb mark 0)) 2 (cond short 3 0) ⌝ }
+// A repeat where its pair may stand once and has stood, short or not; else by its size, and by what it holds.
+pub fn listed_standing(many: bool, mark: u8, short: bool, over: bool) -> u8
+    ensures { λ r. ⌜ r ≡ cond (not many && not (eqb mark 0)) 2 (cond short 3 (cond over 4 0)) ⌝ }
 {
     if many {
-        return sized(short);
+        return sized(short, over);
     }
     if mark != 0 {
         return 2;
     }
-    sized(short)
+    sized(short, over)
 }
 
 pub fn mark_after(old: u8, stand: u8) -> u8
     ensures { λ r. ⌜ r ≡ markAfter old stand ⌝ }
 {
     if stand == 0 {
+        return 2;
+    }
+    if stand == 4 {
         return 2;
     }
     if old == 2 {

@@ -10,21 +10,21 @@ use native.Mathlib.Omega.{arith}
 use native.Mathlib.Decide.{decLt}
 use borrow.Author.Tests.{ltb-true, ltb-false, lt-ltb, ne-eqb}
 use lib.Dec.{eqb}
-use lib.ListN.{length, getD, length-replicate}
+use lib.ListN.{length, getD, take, drop, length-replicate}
 use Rattle.rules.specs.Framing.{elementHeader}
 use Rattle.rules.specs.Types.{leastOf}
-use Rattle.rules.specs.Listings.{Book, noLine, seek, listing}
-use Rattle.rules.specs.Standing.{mostLines, fresh, lineNumber, lineIn, isListed, stoodEarlier, isShort, standing, marked}
+use Rattle.rules.specs.Listings.{Book, Line, noLine, seek, listing}
+use Rattle.rules.specs.Standing.{mostLines, fresh, lineNumber, lineIn, isListed, stoodEarlier, isShort, isOver, standing, marked}
 use Rattle.rules.specs.Taking.{bodyLevel}
 use Rattle.rules.specs.Sound.{sound}
 use Rattle.rules.specs.Values.{rowParent, rowType, rowInstance, rowPlace, rowLength}
-use Rattle.rules.specs.declared.Head.{Head}
+use Rattle.rules.specs.Frames.{Element, framesOf, exceeds}
 use Rattle.rules.proofs.Lines.{level-size}
-use Rattle.rules.proofs.Standings.{Case, is-unexpected, is-repeated, is-short, is-kept, standing-case, no-mark, own-mark, marks-stay, marked-length}
+use Rattle.rules.proofs.Standings.{Case, is-unexpected, is-repeated, is-short, is-kept, is-void, standing-case, no-mark, own-mark, marks-stay, marked-length}
 use Rattle.rules.proofs.Pairs.{Once, new-mark}
 use Rattle.tables.specs.Levels.{levelOf}
 use Rattle.tables.specs.Words.{firstValue}
-use Rattle.tables.specs.Standings.{itsListing, itsNumber, Listed, Again, itsLeast, Below, StandsAs}
+use Rattle.tables.specs.Standings.{itsListing, itsNumber, Listed, Again, itsLeast, Below, itsFrames, itsLimits, Over, StandsAs}
 use Rattle.tables.proofs.Tests.{clash}
 
 -- a row before n with the parent p has the pair y/i
@@ -61,7 +61,7 @@ module _ (b : Book) (fine : sound b ≡ true) (k v : ℕ) (t : List ℕ) (p : �
       go x s (no h) = absurd (none x (omega arith) (s .earlier) (s .parent))
 
   -- a row of the level
-  pub tells-next : (ms : List ℕ) (n : ℕ) (h : Head) → rowParent t n ≡ p → rowType t n ≡ h .typ → rowInstance t n ≡ h .inst
+  pub tells-next : (ms : List ℕ) (n : ℕ) (h : Element) → rowParent t n ≡ p → rowType t n ≡ h .typ → rowInstance t n ≡ h .inst
       → Tells b k v t p ms n → Tells b k v t p (marked b k v ms h) (n + 1)
   tells-next ms n h ep et ei a = record { size = marked-length b k v ms h ∙ a .size; marks = λ y i x w s. old y i x w s (decLt x n); stood = λ y i w c. new y i w (new-mark b fine k v w ms h c) }
     where
@@ -81,13 +81,14 @@ module _ (b : Book) (fine : sound b ≡ true) (k v : ℕ) (t : List ℕ) (p : �
 -- ---- the standing
 
 -- row n of the table is an element with head h, at the place `at`, with the parent p
-pub record RowIs (m t : List ℕ) (p at n : ℕ) (h : Head) : Type 0 where
+pub record RowIs (m t : List ℕ) (p at n : ℕ) (h : Element) : Type 0 where
   pub parent : rowParent t n ≡ p
   pub typ : rowType t n ≡ h .typ
   pub inst : rowInstance t n ≡ h .inst
   pub place : rowPlace t n ≡ at + elementHeader
   pub len : rowLength t n ≡ h .len
   pub first : firstValue m t n ≡ h .first
+  pub within : framesOf (take (rowLength t n) (drop (rowPlace t n) m)) ≡ h .within
 
 -- two first value octets, where an empty value has 0
 pub same-first : (n o : ℕ) (c : Bool) → (c ≡ false → n ≡ o) → cond c 0 n ≡ cond c 0 o
@@ -97,13 +98,16 @@ same-first n o false f = f refl
 not-not : (n : ℕ) → not (eqb n 0) ≡ true → n ≢ 0
 not-not n e z = let y : not (eqb 0 0) ≡ true = rw z at e in let w : _≡_ {A = ℕ} 0 1 = cc in omega arith
 
-module _ (b : Book) (k : ℕ) (m t : List ℕ) (v p at n : ℕ) (ms : List ℕ) (h : Head) (tells : Tells b k v t p ms n) (lev : levelOf b k (bodyLevel b m) t p ≡ v)
+module _ (b : Book) (k : ℕ) (m t : List ℕ) (v p at n : ℕ) (ms : List ℕ) (h : Element) (tells : Tells b k v t p ms n) (lev : levelOf b k (bodyLevel b m) t p ≡ v)
     (row : RowIs m t p at n h) where
   its-listing : itsListing b k m t n ≡ listing b v
   its-listing = ap (λ (x : ℕ). listing b (levelOf b k (bodyLevel b m) t x)) (row .parent) ∙ ap (listing b) lev
 
   its-number : itsNumber b k m t n ≡ lineNumber b k v h
   its-number = rw (its-listing, row .typ, row .inst)
+
+  its-line : getD (itsListing b k m t n) (itsNumber b k m t n) noLine ≡ lineIn b k v h
+  its-line = rw (its-number, its-listing)
 
   its-many : getD (itsListing b k m t n) (itsNumber b k m t n) noLine .many ≡ lineIn b k v h .many
   its-many = rw (its-number, its-listing)
@@ -140,11 +144,15 @@ module _ (b : Book) (k : ℕ) (m t : List ℕ) (v p at n : ℕ) (ms : List ℕ) 
   unfolding isShort
   not-below e l = omega (arith, ltb-false (h .len) (leastOf (h .typ) (h .first)) e, l, its-least, row .len)
 
+  its-over : exceeds (itsLimits b k m t n) (itsFrames b k m t n) ≡ isOver b k v h
+  its-over = ap (λ (l : Line). exceeds (l .limits) (itsFrames b k m t n)) its-line ∙ ap (exceeds (lineIn b k v h .limits)) (row .within)
+
   by-case : {s : ℕ} → Case b k v ms h s → StandsAs b k m t n s
   by-case (is-unexpected a) = StandsAs.is-unexpected (λ l. clash (isListed b k v h) (listed-is l) a)
   by-case (is-repeated a c d) = StandsAs.is-repeated (is-listed a) (is-again a c d)
   by-case (is-short a c d) = StandsAs.is-short (is-listed a) (not-again a c) (is-below d)
-  by-case (is-kept a c d) = StandsAs.is-kept (is-listed a) (not-again a c) (not-below d)
+  by-case (is-kept a c d f) = StandsAs.is-kept (is-listed a) (not-again a c) (not-below d) (λ o. clash (isOver b k v h) (sym its-over ∙ o) f)
+  by-case (is-void a c d f) = StandsAs.is-void (is-listed a) (not-again a c) (not-below d) (its-over ∙ f)
 
   pub stands : StandsAs b k m t n (standing b k v ms h)
   stands = by-case (standing-case b k v ms h)

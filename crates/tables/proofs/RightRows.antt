@@ -27,7 +27,7 @@ use Rattle.tables.proofs.Elements.{within, siblings, in-order, parent-k
 use Rattle.tables.proofs.Marks.{tells-fresh}
 use Rattle.tables.proofs.Standings.{kept-listed}
 use Rattle.tables.proofs.Levels.{level-group, group-level}
-use Rattle.tables.proofs.Faithful.{rows-faithful}
+use Rattle.tables.proofs.Faithful.{rows-faithful, sub-body}
 use Rattle.tables.proofs.Filling.{Over}
 use Rattle.tables.proofs.Stood.{stood}
 
@@ -135,7 +135,7 @@ module _ (b : Book) (fine : sound b ≡ true) (k : ℕ) (m t : List ℕ) (es : L
   standing r l =
       let s = same r l in
       let z : 0 + r ≡ r = omega arith in
-      let c = stood b fine k m t es ok levels back d (all-stand b fine k m es d) refl (omega arith) (λ j h. getD-drop (headerLength m) m j 0)
+      let c = stood b fine k m t es ok levels back d (all-stand b fine k m es d) refl (omega arith) (sub-body m (headerLength m))
       (tells-fresh b fine k (bodyLevel b m) t 0 0 (λ y h. absurd (omega arith))) r (s .there) in
       rw (s .stand) (rw z at c)
 

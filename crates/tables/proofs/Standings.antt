@@ -1,4 +1,4 @@
--- A row has one standing, since each case excludes the others; so each of the four is given exactly where its own words hold. Assumes nothing.
+-- A row has one standing, since each case excludes the others; so each of the five is given exactly where its own words hold. Assumes nothing.
 use mathlib.Core.Path.{_≡_, refl}
 use mathlib.Core.Logic.{_↔_}
 use mathlib.Core.Bool.{Bool, true, false, cond}
@@ -7,11 +7,11 @@ use Prim.Native.Nat.{ℕ, zero, suc, _<_}
 use native.Mathlib.Omega.{arith}
 use lib.ListN.{length, getD}
 use Rattle.rules.specs.Listings.{Book, Line, noLine, lists, seek}
-use Rattle.rules.specs.Standing.{kept, unexpected, repeated, short}
+use Rattle.rules.specs.Standing.{kept, unexpected, repeated, short, void}
 use Rattle.rules.specs.Values.{rowType, rowInstance, rowStanding}
 use Rattle.rules.proofs.Lines.{seek-lists}
 use Rattle.tables.specs.Words.{rows}
-use Rattle.tables.specs.Standings.{itsListing, itsNumber, Listed, Again, Below, StandsAs, is-unexpected, is-repeated, is-short, is-kept}
+use Rattle.tables.specs.Standings.{itsListing, itsNumber, Listed, Again, Below, Over, StandsAs, is-unexpected, is-repeated, is-short, is-void, is-kept}
 use Rattle.tables.specs.IsTable.{IsRows}
 
 -- a row has one standing
@@ -19,30 +19,41 @@ pub stands-once : (b : Book) (k : ℕ) (m t : List ℕ) (r : ℕ) {s s′ : ℕ}
 stands-once b k m t r (is-unexpected a) (is-unexpected a′) = refl
 stands-once b k m t r (is-unexpected a) (is-repeated l g) = absurd (a l)
 stands-once b k m t r (is-unexpected a) (is-short l g c) = absurd (a l)
-stands-once b k m t r (is-unexpected a) (is-kept l g c) = absurd (a l)
+stands-once b k m t r (is-unexpected a) (is-void l g c o) = absurd (a l)
+stands-once b k m t r (is-unexpected a) (is-kept l g c o) = absurd (a l)
 stands-once b k m t r (is-repeated l g) (is-unexpected a) = absurd (a l)
 stands-once b k m t r (is-repeated l g) (is-repeated l′ g′) = refl
 stands-once b k m t r (is-repeated l g) (is-short l′ g′ c) = absurd (g′ g)
-stands-once b k m t r (is-repeated l g) (is-kept l′ g′ c) = absurd (g′ g)
+stands-once b k m t r (is-repeated l g) (is-void l′ g′ c o) = absurd (g′ g)
+stands-once b k m t r (is-repeated l g) (is-kept l′ g′ c o) = absurd (g′ g)
 stands-once b k m t r (is-short l g c) (is-unexpected a) = absurd (a l)
 stands-once b k m t r (is-short l g c) (is-repeated l′ g′) = absurd (g g′)
 stands-once b k m t r (is-short l g c) (is-short l′ g′ c′) = refl
-stands-once b k m t r (is-short l g c) (is-kept l′ g′ c′) = absurd (c′ c)
-stands-once b k m t r (is-kept l g c) (is-unexpected a) = absurd (a l)
-stands-once b k m t r (is-kept l g c) (is-repeated l′ g′) = absurd (g g′)
-stands-once b k m t r (is-kept l g c) (is-short l′ g′ c′) = absurd (c c′)
-stands-once b k m t r (is-kept l g c) (is-kept l′ g′ c′) = refl
+stands-once b k m t r (is-short l g c) (is-void l′ g′ c′ o) = absurd (c′ c)
+stands-once b k m t r (is-short l g c) (is-kept l′ g′ c′ o) = absurd (c′ c)
+stands-once b k m t r (is-void l g c o) (is-unexpected a) = absurd (a l)
+stands-once b k m t r (is-void l g c o) (is-repeated l′ g′) = absurd (g g′)
+stands-once b k m t r (is-void l g c o) (is-short l′ g′ c′) = absurd (c c′)
+stands-once b k m t r (is-void l g c o) (is-void l′ g′ c′ o′) = refl
+stands-once b k m t r (is-void l g c o) (is-kept l′ g′ c′ o′) = absurd (o′ o)
+stands-once b k m t r (is-kept l g c o) (is-unexpected a) = absurd (a l)
+stands-once b k m t r (is-kept l g c o) (is-repeated l′ g′) = absurd (g g′)
+stands-once b k m t r (is-kept l g c o) (is-short l′ g′ c′) = absurd (c c′)
+stands-once b k m t r (is-kept l g c o) (is-void l′ g′ c′ o′) = absurd (o o′)
+stands-once b k m t r (is-kept l g c o) (is-kept l′ g′ c′ o′) = refl
 
--- what a standing says; a number that is none of the four is none
+-- what a standing says; a number that is none of the five is none
 says : (b : Book) (k : ℕ) (m t : List ℕ) (r s : ℕ) → StandsAs b k m t r s
     → (s ≡ unexpected → Listed b k m t r → ⊥)
     × (s ≡ repeated → Listed b k m t r × Again b k m t r)
     × (s ≡ short → Listed b k m t r × (Again b k m t r → ⊥) × Below b k m t r)
-    × (s ≡ kept → Listed b k m t r × (Again b k m t r → ⊥) × (Below b k m t r → ⊥))
-says b k m t r s (is-unexpected a) = (λ e. a, λ e. absurd (omega arith), λ e. absurd (omega arith), λ e. absurd (omega arith))
-says b k m t r s (is-repeated l g) = (λ e. absurd (omega arith), λ e. (l, g), λ e. absurd (omega arith), λ e. absurd (omega arith))
-says b k m t r s (is-short l g c) = (λ e. absurd (omega arith), λ e. absurd (omega arith), λ e. (l, g, c), λ e. absurd (omega arith))
-says b k m t r s (is-kept l g c) = (λ e. absurd (omega arith), λ e. absurd (omega arith), λ e. absurd (omega arith), λ e. (l, g, c))
+    × (s ≡ kept → Listed b k m t r × (Again b k m t r → ⊥) × (Below b k m t r → ⊥) × (Over b k m t r → ⊥))
+    × (s ≡ void → Listed b k m t r × (Again b k m t r → ⊥) × (Below b k m t r → ⊥) × Over b k m t r)
+says b k m t r s (is-unexpected a) = (λ e. a, λ e. absurd (omega arith), λ e. absurd (omega arith), λ e. absurd (omega arith), λ e. absurd (omega arith))
+says b k m t r s (is-repeated l g) = (λ e. absurd (omega arith), λ e. (l, g), λ e. absurd (omega arith), λ e. absurd (omega arith), λ e. absurd (omega arith))
+says b k m t r s (is-short l g c) = (λ e. absurd (omega arith), λ e. absurd (omega arith), λ e. (l, g, c), λ e. absurd (omega arith), λ e. absurd (omega arith))
+says b k m t r s (is-kept l g c o) = (λ e. absurd (omega arith), λ e. absurd (omega arith), λ e. absurd (omega arith), λ e. (l, g, c, o), λ e. absurd (omega arith))
+says b k m t r s (is-void l g c o) = (λ e. absurd (omega arith), λ e. absurd (omega arith), λ e. absurd (omega arith), λ e. absurd (omega arith), λ e. (l, g, c, o))
 
 pub kept-listed : (b : Book) (k : ℕ) (m t : List ℕ) (r : ℕ) {s : ℕ} → StandsAs b k m t r s → s ≡ kept → Listed b k m t r
 kept-listed b k m t r {s} a e = says b k m t r s a .3 e .0
@@ -60,8 +71,11 @@ module _ (b : Book) (k : ℕ) (m t : List ℕ) (x : IsRows b k m t) (r : ℕ) (l
   pub short-iff : (rowStanding t r ≡ short) ↔ (Listed b k m t r × (Again b k m t r → ⊥) × Below b k m t r)
   short-iff = (says b k m t r (rowStanding t r) (x .standing r l) .2, λ a. is (is-short (a .0) (a .1) (a .2)))
 
-  pub kept-iff : (rowStanding t r ≡ kept) ↔ (Listed b k m t r × (Again b k m t r → ⊥) × (Below b k m t r → ⊥))
-  kept-iff = (says b k m t r (rowStanding t r) (x .standing r l) .3, λ a. is (is-kept (a .0) (a .1) (a .2)))
+  pub void-iff : (rowStanding t r ≡ void) ↔ (Listed b k m t r × (Again b k m t r → ⊥) × (Below b k m t r → ⊥) × Over b k m t r)
+  void-iff = (says b k m t r (rowStanding t r) (x .standing r l) .4, λ a. is (is-void (a .0) (a .1) (a .2) (a .3)))
+
+  pub kept-iff : (rowStanding t r ≡ kept) ↔ (Listed b k m t r × (Again b k m t r → ⊥) × (Below b k m t r → ⊥) × (Over b k m t r → ⊥))
+  kept-iff = (says b k m t r (rowStanding t r) (x .standing r l) .3, λ a. is (is-kept (a .0) (a .1) (a .2) (a .3)))
 
 -- ---- a pair is listed where some line lists it
 

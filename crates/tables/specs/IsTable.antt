@@ -34,7 +34,7 @@ pub record IsRows (b : Book) (k : ℕ) (m t : List ℕ) : Type 0 where
   pub order : (x y : ℕ) → x < y → y < rows t → rowPlace t x < rowPlace t y
   -- no octet is read twice at its level
   pub apart : (x y : ℕ) → x < y → y < rows t → rowParent t x ≡ rowParent t y → rowEnd t x ≤ rowStart t y
-  -- standing 1, 2, 3 or 0, the first that applies
+  -- standing 1, 2, 3, 4 or 0, the first that applies
   pub standing : (r : ℕ) → r < rows t → StandsAs b k m t r (rowStanding t r)
 
 pub record IsTable (b : Book) (k : ℕ) (m t : List ℕ) : Type 0 where

@@ -1,15 +1,16 @@
 -- The standing of a row, over rows: an earlier element of the pair at the level is an earlier row with that parent, type and instance. There are no marks
 -- in it. Assumes nothing.
 use mathlib.Core.Path.{_≡_}
-use mathlib.Core.Bool.{false}
+use mathlib.Core.Bool.{true, false}
 use mathlib.Core.List.{List}
 use Prim.Native.Nat.{ℕ, _<_}
-use lib.ListN.{length, getD}
+use lib.ListN.{length, getD, take, drop}
 use Rattle.rules.specs.Types.{leastOf}
-use Rattle.rules.specs.Listings.{Book, Line, noLine, seek, listing}
-use Rattle.rules.specs.Standing.{kept, unexpected, repeated, short}
+use Rattle.rules.specs.Listings.{Book, Line, Limit, noLine, seek, listing}
+use Rattle.rules.specs.Frames.{Frame, framesOf, exceeds}
+use Rattle.rules.specs.Standing.{kept, unexpected, repeated, short, void}
 use Rattle.rules.specs.Taking.{bodyLevel}
-use Rattle.rules.specs.Values.{rowParent, rowType, rowInstance, rowLength}
+use Rattle.rules.specs.Values.{rowParent, rowType, rowInstance, rowPlace, rowLength}
 use Rattle.tables.specs.Words.{firstValue}
 use Rattle.tables.specs.Levels.{levelOf}
 
@@ -43,9 +44,20 @@ module _ (b : Book) (k : ℕ) (m t : List ℕ) (r : ℕ) where
   abbrev pub Below : Type 0
   Below = rowLength t r < itsLeast
 
-  -- the four standings: the first that applies
+  -- the elements that stand directly inside its value, by their headers alone, and that there are more of a pair than its line lets stand
+  abbrev pub itsFrames : List Frame
+  itsFrames = framesOf (take (rowLength t r) (drop (rowPlace t r) m))
+
+  abbrev pub itsLimits : List Limit
+  itsLimits = getD itsListing itsNumber noLine .limits
+
+  abbrev pub Over : Type 0
+  Over = exceeds itsLimits itsFrames ≡ true
+
+  -- the five standings: the first that applies
   pub data StandsAs : ℕ → Type 0 where
     is-unexpected : (Listed → ⊥) → StandsAs unexpected
     is-repeated : Listed → Again → StandsAs repeated
     is-short : Listed → (Again → ⊥) → Below → StandsAs short
-    is-kept : Listed → (Again → ⊥) → (Below → ⊥) → StandsAs kept
+    is-void : Listed → (Again → ⊥) → (Below → ⊥) → Over → StandsAs void
+    is-kept : Listed → (Again → ⊥) → (Below → ⊥) → (Over → ⊥) → StandsAs kept

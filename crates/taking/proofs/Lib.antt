@@ -1,4 +1,5 @@
 pub mod Heads
+pub mod Crowds
 pub mod Taking
 pub mod Lent
 pub mod Lacking

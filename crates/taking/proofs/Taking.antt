@@ -2,14 +2,16 @@
 --     took-unlisted   the pair is not listed          took-kept   the element is kept          took-aside   it is not
 use mathlib.Core.Path.{_≡_, refl, sym, ap, _∙_}
 use mathlib.Core.Bool.{Bool, true, false, cond, not, _&&_}
-use mathlib.Core.List.{List}
+use mathlib.Core.List.{List, []}
 use Prim.Native.Nat.{ℕ, _+_, _≤_, _<_}
 use native.Mathlib.Omega.{arith}
 use borrow.Author.Tests.{lt-ltb, le-ltb, ne-eqb}
 use lib.Dec.{eqb, ltb}
 use lib.ListN.{length, getD, set, List·getD-eq-default}
 use Rattle.rules.specs.Listings.{Line, noLine, book, seek, listing}
-use Rattle.rules.specs.Standing.{Item, kept, markAfter, isShort, lineNumber, lineIn, isListed, standing, marked, entered, itemOf}
+use Rattle.rules.specs.Standing.{Item, kept, markAfter, isShort, lineNumber, lineIn, isListed, isOver, standing, marked, entered, itemOf}
+use Rattle.rules.specs.Sound.{isFree}
+use Rattle.rules.specs.Frames.{Frame, Element, element, exceeds}
 use Rattle.rules.specs.declared.Head.{Head}
 use Rattle.taking.specs.Lacks.{fault}
 use Rattle.taking.specs.Held.{Held, held, one, count, counted, shortOf, putNumbers, putRow, Few, Took}
@@ -41,7 +43,12 @@ none-short f must p t i = go (eqb f 0) must
     go true false = refl
     go false c = refl
 
-module _ (k v : ℕ) (m : List ℕ) (p at : ℕ) (h : Head) (c : Counts) (rows : List ℕ) (few : Few c at) where
+-- whether an element is short does not hang on what stands inside it
+pub same-short : (h : Head) (fs : List Frame) {z : Bool} → z ≡ isShort (element h []) → z ≡ isShort (element h fs)
+unfolding isShort
+same-short h fs e = e
+
+module _ (k v : ℕ) (m : List ℕ) (p at : ℕ) (h : Element) (c : Counts) (rows : List ℕ) (few : Few c at) where
   i : Item
   i = itemOf book k v m p at h
 
@@ -64,13 +71,13 @@ module _ (k v : ℕ) (m : List ℕ) (p at : ℕ) (h : Head) (c : Counts) (rows :
   stand-unlisted e = rw e
 
   stand-listed : isListed book k v h ≡ true
-      → cond (not (lineIn book k v h .many) && not (eqb (getD m (lineNumber book k v h) 0) 0)) 2 (cond (isShort h) 3 0) ≡ standing book k v m h
+      → cond (not (lineIn book k v h .many) && not (eqb (getD m (lineNumber book k v h) 0) 0)) 2 (cond (isShort h) 3 (cond (isOver book k v h) 4 0)) ≡ standing book k v m h
   unfolding standing
   stand-listed e = rw e
 
   pub took-unlisted : (n : ℕ) (c′ : Counts) (rows′ : List ℕ) → n ≡ seek (listing book v) k (h .typ) (h .inst) → length (listing book v) ≤ n
       → rows′ ≡ putNumbers rows (c .rows) p (h .typ) (h .inst) (at + 4) (h .len) 1 → c′ ≡ counted c 1 (c .short)
-      → Took (record { counts = c′; inner = 0 }) m rows′ k v m p at h (held c rows)
+      → Took (record { counts = c′; inner = 0; limited = false }) m rows′ k v m p at h (held c rows)
   unfolding marked entered
   took-unlisted n c′ rows′ e l hr hc =
       let off : isListed book k v h ≡ false = le-ltb (seek (listing book v) k (h .typ) (h .inst)) (length (listing book v)) (omega arith) in
@@ -80,42 +87,47 @@ module _ (k v : ℕ) (m : List ℕ) (p at : ℕ) (h : Head) (c : Counts) (rows :
         holds = holds 1 (c .short) c′ rows′ st f hr hc;
         marks = rw off;
         level = rw (← st);
+        limits = rw (← st);
         few = few-now 1 (c .short) c′ rows′ st f hr hc;
       }
 
   -- what is said of a listed element; its line has number n
-  module _ (n st mk : ℕ) (many short : Bool) (rows′ : List ℕ) (e : n ≡ seek (listing book v) k (h .typ) (h .inst)) (l : n < length (listing book v))
-      (h₂ : many ≡ getD (listing book v) n noLine .many) (h₄ : short ≡ isShort h) (hs : st ≡ cond (not many && not (eqb (getD m n 0) 0)) 2 (cond short 3 0))
+  module _ (n st mk : ℕ) (many short over : Bool) (rows′ : List ℕ) (e : n ≡ seek (listing book v) k (h .typ) (h .inst)) (l : n < length (listing book v))
+      (h₂ : many ≡ getD (listing book v) n noLine .many) (h₄ : short ≡ isShort h) (h₅ : over ≡ exceeds (getD (listing book v) n noLine .limits) (h .within))
+      (hs : st ≡ cond (not many && not (eqb (getD m n 0) 0)) 2 (cond short 3 (cond over 4 0)))
       (hm : mk ≡ markAfter (getD m n 0) st) (hr : rows′ ≡ putNumbers rows (c .rows) p (h .typ) (h .inst) (at + 4) (h .len) st) where
     on : isListed book k v h ≡ true
     on = lt-ltb (seek (listing book v) k (h .typ) (h .inst)) (length (listing book v)) (omega arith)
 
     stands : st ≡ standing book k v m h
-    stands = hs ∙ rw (h₂, h₄, e) (stand-listed on)
+    stands = hs ∙ rw (h₂, h₄, h₅, e) (stand-listed on)
 
     marks-are : set m n mk ≡ marked book k v m h
     unfolding marked
     marks-are = rw (on, hm, ← stands, e)
 
-    pub took-kept : (inside : ℕ) (c′ : Counts) → st ≡ 0 → inside ≡ getD (listing book v) n noLine .inside → c′ ≡ counted c 0 (c .short)
-        → Took (record { counts = c′; inner = inside }) (set m n mk) rows′ k v m p at h (held c rows)
+    pub took-kept : (inside : ℕ) (limits : Bool) (c′ : Counts) → st ≡ 0 → inside ≡ getD (listing book v) n noLine .inside
+        → limits ≡ not (isFree (getD (listing book v) n noLine)) → c′ ≡ counted c 0 (c .short)
+        → Took (record { counts = c′; inner = inside; limited = limits }) (set m n mk) rows′ k v m p at h (held c rows)
     unfolding entered
-    took-kept inside c′ z hi hc =
+    took-kept inside limits c′ z hi hl hc =
         let f : c .short ≡ shortOf (c .short) (lineIn book k v h .must) st at (h .typ) (h .inst) = rw z (sym (none-short (c .short) (lineIn book k v h .must) at (h .typ) (h .inst))) in
         let hc′ : c′ ≡ counted c st (c .short) = rw z hc in record {
           holds = holds st (c .short) c′ rows′ stands f hr hc′;
           marks = marks-are;
           level = hi ∙ rw (← stands, z, e);
+          limits = hl ∙ rw (← stands, z, e);
           few = few-now st (c .short) c′ rows′ stands f hr hc′;
         }
 
     pub took-aside : (f : ℕ) (must : Bool) (c′ : Counts) → (st ≡ 0 → ⊥) → must ≡ getD (listing book v) n noLine .must → f ≡ shortOf (c .short) must st at (h .typ) (h .inst) → c′ ≡ counted c st f
-        → Took (record { counts = c′; inner = 0 }) (set m n mk) rows′ k v m p at h (held c rows)
+        → Took (record { counts = c′; inner = 0; limited = false }) (set m n mk) rows′ k v m p at h (held c rows)
     unfolding entered
     took-aside f must c′ z h₁ hf hc =
         let f′ : f ≡ shortOf (c .short) (lineIn book k v h .must) st at (h .typ) (h .inst) = hf ∙ rw (h₁, e) in record {
           holds = holds st f c′ rows′ stands f′ hr hc;
           marks = marks-are;
           level = rw (← stands, ne-eqb st 0 z);
+          limits = rw (← stands, ne-eqb st 0 z);
           few = few-now st f c′ rows′ stands f′ hr hc;
         }

@@ -1,14 +1,16 @@
 -- What is made of the elements as they are taken: the counts, the first mandatory short element, what the levels lack, and the lent rows. Assumes nothing.
 use mathlib.Core.Path.{_≡_}
 use Prim.Native.Nat.{ℕ, _+_, _*_, _≤_, _<_}
-use mathlib.Core.Bool.{Bool, true, false, cond}
+use mathlib.Core.Bool.{Bool, true, false, cond, not, _&&_}
 use mathlib.Core.List.{List}
 use lib.Dec.{eqb, leb}
 use lib.ListN.{length, drop, set}
 use Rattle.rules.specs.Sizes.{rowNumbers, largestMessage}
 use Rattle.rules.specs.Framing.{headOf}
 use Rattle.rules.specs.Listings.{anyInstance, book}
-use Rattle.rules.specs.Standing.{Item, kept, valuePlace, itemOf, marked, entered}
+use Rattle.rules.specs.Sound.{isFree}
+use Rattle.rules.specs.Frames.{Element}
+use Rattle.rules.specs.Standing.{Item, kept, valuePlace, lineIn, standing, itemOf, marked, entered}
 use Rattle.rules.specs.declared.Head.{Head}
 use Rattle.standings.specs.Faults.{firstFault, lesser}
 use Rattle.taking.specs.Lent.{Lines}
@@ -76,17 +78,23 @@ pub record RowFits (row place parent len : ℕ) : Type 0 where
   pub under : parent ≤ largestMessage
   pub ends : place + 4 + len ≤ largestMessage
 
--- what taking the element with head h at `at` asks: the lines xs of its level
-pub record Takes (k v : ℕ) (xs : List ℕ) (h : Head) (at p : ℕ) (c : Counts) : Type 0 where
+-- what taking the element with head h at `at` asks: the lines xs of its level; n octets of its value are lent
+pub record Takes (k v : ℕ) (xs : List ℕ) (h : Head) (n at p : ℕ) (c : Counts) : Type 0 where
   pub lent : Lines k v xs
   pub inst : h .inst < anyInstance
   pub parent : p ≤ largestMessage
   pub few : Few c at
   pub ends : at + 4 + h .len ≤ largestMessage
+  pub value : n ≤ largestMessage
 
--- what taking the element with head h leaves: the marks, the lent rows and the counts, and the level to enter
-pub record Took (r : Taken) (m′ rows′ : List ℕ) (k v : ℕ) (m : List ℕ) (p at : ℕ) (h : Head) (s : Held) : Type 0 where
+-- an element that is kept has limits on what its inside holds
+abbrev pub hasLimits : ℕ → ℕ → List ℕ → Element → Bool
+hasLimits k v m h = eqb (standing book k v m h) kept && not (isFree (lineIn book k v h))
+
+-- what taking the element h leaves: the marks, the lent rows and the counts, and the level to enter
+pub record Took (r : Taken) (m′ rows′ : List ℕ) (k v : ℕ) (m : List ℕ) (p at : ℕ) (h : Element) (s : Held) : Type 0 where
   pub holds : held (r .counts) rows′ ≡ one s (itemOf book k v m p at h)
   pub marks : m′ ≡ marked book k v m h
   pub level : r .inner ≡ entered book k v m h
+  pub limits : r .limited ≡ hasLimits k v m h
   pub few : Few (r .counts) (at + 4)

@@ -1,3 +1,4 @@
 pub mod Lent
 pub mod Lacks
 pub mod Held
+pub mod Frames

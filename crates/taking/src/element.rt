@@ -2,13 +2,16 @@
 ghost use mathlib.Core.Path.{_≡_};
 ghost use Prim.Native.Nat.{_+_, _≤_, _<_};
 ghost use mathlib.Core.Bool.{true};
+ghost use mathlib.Core.List.{[]};
 ghost use lib.ListN.{length};
 ghost use Rattle.rules.specs.Framing.{noHead};
+ghost use Rattle.rules.specs.Frames.{element, framesOf};
 ghost use Rattle.rules.specs.Standing.{isShort};
 ghost use Rattle.taking.specs.Lacks.{fault};
 ghost use Rattle.taking.specs.Held.{held, shortOf, counted, putNumbers, Few, Looked, RowFits, Takes, Took};
 use crate::Counts;
 use crate::Taken;
+use crate::frames;
 use crate::line;
 use crate::wide;
 use rules::Head;
@@ -57,7 +60,7 @@ pub fn look(part: &[u8], at: usize) -> Head
 
 // Is the value below its least length?
 pub(crate) fn is_short(h: Head) -> bool
-    ensures { λ r. ⌜ r ≡ isShort h ⌝ }
+    ensures { λ r. ⌜ r ≡ isShort (element h []) ⌝ }
 {
     h.len < facts::least(h.typ, h.first)
 }
@@ -149,20 +152,23 @@ pub(crate) fn write_row(
     );
 }
 
-// An element is judged and marked at its level, its row is written, and it is counted. A pair that is not listed touches no mark.
+// An element is judged and marked at its level, its row is written, and it is counted. A pair that is not listed touches no mark. Where the octets
+// of its value are still to come, the value is lent as empty, and no limit is passed yet.
 pub fn take_one(
     kind: u32,
     level: u8,
     lines: &[u32],
     h: Head,
+    value: &[u8],
     place: usize,
     parent: usize,
     seen: &mut [u8; 32],
     rows: &mut [u16],
     counts: Counts,
 ) -> Taken
-    requires { ⌜ Takes kind level (now lines) h place parent counts ⌝ }
-    ensures { λ r. ⌜ Took r (now (seen .exit)) (now (rows .exit)) kind level (now (seen .entry)) parent place h (held counts (now (rows .entry))) ⌝ }
+    requires { ⌜ Takes kind level (now lines) h (length (now value)) place parent counts ⌝ }
+    ensures { λ r. ⌜ Took r (now (seen .exit)) (now (rows .exit)) kind level (now (seen .entry)) parent place
+        (element h (framesOf (now (value .entry)))) (held counts (now (rows .entry))) ⌝ }
 {
     let typ = h.typ;
     let inst = h.inst;
@@ -172,23 +178,27 @@ pub fn take_one(
         return Taken {
             counts: count_one(counts, 1, counts.short),
             inner: 0,
+            limited: false,
         };
     }
     let line = lines[n];
     let short = is_short(h);
+    let over = frames::is_over(line, value);
     let old = seen[n];
-    let stand = standings::listed_standing(line::many(line), old, short);
+    let stand = standings::listed_standing(line::many(line), old, short, over);
     seen[n] = standings::mark_after(old, stand);
     write_row(rows, counts.rows, h, place, parent, stand);
     if stand == 0 {
         return Taken {
             counts: count_one(counts, 0, counts.short),
             inner: line::inside(line),
+            limited: line::limited(line),
         };
     }
     let first = first_short(counts.short, line::must(line), stand, place, typ, inst);
     Taken {
         counts: count_one(counts, stand, first),
         inner: 0,
+        limited: false,
     }
 }

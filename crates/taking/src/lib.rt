@@ -5,6 +5,7 @@ ghost use Rattle.taking.specs.Lent.{Octet};
 ghost use Rattle.taking.specs.Held.{noCounts};
 
 pub mod element;
+pub mod frames;
 pub mod level;
 pub mod line;
 
@@ -17,10 +18,11 @@ pub struct Counts {
     pub gap: usize,
 }
 
-// The counts after an element, and the level of its inside if it is entered, else 0.
+// The counts after an element, the level of its inside if it is kept and a group, else 0, and whether what that holds has limits.
 pub struct Taken {
     pub counts: Counts,
     pub inner: u8,
+    pub limited: bool,
 }
 
 // An octet as a number to count with.

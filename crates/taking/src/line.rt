@@ -1,7 +1,7 @@
 // A level's lines, each a number: which of them lists a pair, and what a line says.
 ghost use mathlib.Core.Path.{_≡_};
 ghost use Rattle.rules.specs.Listings.{book, listing};
-ghost use Rattle.listings.specs.Data.{entriesOf, keyIn, mustIn, manyIn, onIn, skipIn, insideIn, listsIn};
+ghost use Rattle.listings.specs.Data.{entriesOf, keyIn, mustIn, manyIn, onIn, skipIn, insideIn, limitedIn, listsIn};
 ghost use Rattle.taking.specs.Lent.{AtLevel, Small, Seeks, Found};
 
 // The lines of a level.
@@ -48,7 +48,14 @@ pub(crate) fn skip(line: u32) -> usize
 pub(crate) fn inside(line: u32) -> u8
     ensures { λ r. ⌜ r ≡ insideIn line ⌝ }
 {
-    (line / 16777216) as u8
+    (line / 16777216 % 128) as u8
+}
+
+// Has what its inside holds limits?
+pub(crate) fn limited(line: u32) -> bool
+    ensures { λ r. ⌜ r ≡ limitedIn line ⌝ }
+{
+    line / 2147483648 % 2 == 1
 }
 
 // Does the line list, on this kind, the pair of the key `own`, or every instance by the key `any`?

@@ -6,7 +6,6 @@ use Prim.Native.Nat.{ℕ, _≤_, _<_}
 use native.Mathlib.Omega.{arith}
 use native.Mathlib.Decide.{decLt, ℕ-discrete}
 use lib.ListN.{length, drop, length-drop}
-use lib.Seq.{getD-drop}
 use Rattle.rules.specs.Framing.{headerLength}
 use Rattle.rules.specs.Listings.{Book}
 use Rattle.rules.specs.Standing.{fresh}
@@ -16,6 +15,7 @@ use Rattle.rules.specs.Values.{rowParent}
 use Rattle.tables.specs.Words.{rows, rowStart, CoversTo}
 use Rattle.tables.specs.IsTable.{IsRows}
 use Rattle.tables.proofs.Marks.{tells-fresh}
+use Rattle.tables.proofs.Faithful.{sub-body}
 use Rattle.tables.proofs.Trees.{start-is, backward}
 use Rattle.tables.proofs.Tiling.{Next, opens}
 use Rattle.verdicts.proofs.Rebuilding.{Ready}
@@ -49,7 +49,7 @@ module _ (b : Book) (fine : sound b ≡ true) (k : ℕ) (m t : List ℕ) (x : Is
     level = tt;
     lev = refl;
     ends-at = omega (arith, length-drop (headerLength m) m, x .has-body);
-    sub = λ j l. getD-drop (headerLength m) m j 0;
+    sub = sub-body m (headerLength m);
     under = omega arith;
     room = omega arith;
     next = first-row;

@@ -14,14 +14,16 @@ use Rattle.rules.specs.Standing.{fresh, marked, entered}
 use Rattle.rules.specs.Taking.{bodyLevel}
 use Rattle.rules.specs.Met.{CutAt, here, later, within, behind}
 use Rattle.rules.specs.Sound.{sound}
+use Rattle.rules.specs.Frames.{seen}
 use Rattle.rules.specs.Values.{rowParent, rowPlace}
-use Rattle.rules.proofs.Heads.{wholeHead, head-room}
+use Rattle.rules.proofs.Heads.{head-room}
 use Rattle.rules.proofs.Walks.{inside-shorter, rest-shorter}
 use Rattle.tables.specs.Words.{rows, rowStart, rowEnd, RowOver, IsLevel, levelFrom, levelTo}
 use Rattle.tables.specs.IsTable.{IsRows}
 use Rattle.verdicts.specs.IsCut.{CutHere, IsCut}
+use Rattle.tables.proofs.Faithful.{sub-octet}
 use Rattle.tables.proofs.Trees.{start-is, backward, in-row, laminar, inner, past, in-message}
-use Rattle.verdicts.proofs.Rebuilding.{Ready, Built, build, the-place, not-level, group-here, alone-ready, inside-ready, inner-parent, group-ready}
+use Rattle.verdicts.proofs.Rebuilding.{wholeElement, Ready, Built, build, the-place, not-level, group-here, alone-ready, inside-ready, inner-parent, group-ready}
 use Rattle.verdicts.proofs.Rebuilding.{here as row-at}
 use Rattle.verdicts.proofs.Body.{in-body, body-ready}
 
@@ -112,8 +114,8 @@ module _ (b : Book) (fine : sound b ≡ true) (k : ℕ) (m t : List ℕ) (q : �
       no-room a o (inl l) = omega (arith, a, l, s .ready .ends-at)
       no-room a o (inr l) =
           let z : at + 2 ≡ at + 1 + 1 = omega arith in
-          let o₁ : octet xs 1 ≡ octet m (at + 1) = s .ready .sub 1 (omega (arith, a)) in
-          let o₂ : octet xs 2 ≡ octet m (at + 1 + 1) = rw z at (s .ready .sub 2 (omega (arith, a))) in
+          let o₁ : octet xs 1 ≡ octet m (at + 1) = sub-octet m at xs (s .ready .sub) 1 (omega (arith, a)) in
+          let o₂ : octet xs 2 ≡ octet m (at + 1 + 1) = rw z at (sub-octet m at xs (s .ready .sub) 2 (omega (arith, a))) in
           omega (arith, a, o, l, s .ready .ends-at, o₁, o₂)
 
       go : (w : Bool) → headOf xs .whole ≡ w → headOf xs .whole ≡ false
@@ -129,7 +131,7 @@ module _ (b : Book) (fine : sound b ≡ true) (k : ℕ) (m t : List ℕ) (q : �
     there : n < rows t
     there = w .next pos bef .there
 
-    end-is : rowEnd t n ≡ at + elementHeader + wholeHead xs .len
+    end-is : rowEnd t n ≡ at + elementHeader + wholeElement xs .len
     end-is = row-at b fine k m t x q (c .covers) v p n at xs ms w pos bef .end-is
 
     start-at : rowStart t n ≡ at
@@ -148,11 +150,11 @@ module _ (b : Book) (fine : sound b ≡ true) (k : ℕ) (m t : List ℕ) (q : �
         entered-row : (n < d) → IsLevel t (suc n)
         entered-row h = go (decide n)
           where
-            decide : (y : ℕ) → Dec (0 < entered b k v ms (wholeHead xs))
-            decide y = decLt 0 (entered b k v ms (wholeHead xs))
+            decide : (y : ℕ) → Dec (0 < entered b k v ms (wholeElement xs))
+            decide y = decLt 0 (entered b k v ms (wholeElement xs))
 
-            go : Dec (0 < entered b k v ms (wholeHead xs)) → IsLevel t (suc n)
-            go (yes f) = let g = entered b k v ms (wholeHead xs) - 1 in group-here b fine k m t x q (c .covers) v p n at xs ms w pos bef (entered b k v ms (wholeHead xs) - 1) (omega arith)
+            go : Dec (0 < entered b k v ms (wholeElement xs)) → IsLevel t (suc n)
+            go (yes f) = let g = entered b k v ms (wholeElement xs) - 1 in group-here b fine k m t x q (c .covers) v p n at xs ms w pos bef (entered b k v ms (wholeElement xs) - 1) (omega arith)
             go (no f) =
                 absurd (omega (arith, past b k m t x n d h (lv .there) (not-level b fine k m t x q (c .covers) v p n at xs ms w pos bef (omega arith)), c .before d (lv .there), e))
 
@@ -160,24 +162,24 @@ module _ (b : Book) (fine : sound b ≡ true) (k : ℕ) (m t : List ℕ) (q : �
         by (yes y) = let a : rowPlace t d ≤ q = rw z at (cutting .begins) in (rw (← y) a, rw (← y) lv)
         by (no y) = (omega (arith, inner b k m t x n d (omega arith) (lv .there), c .before d (lv .there)), entered-row (omega arith))
 
-    closed-on : (n′ : ℕ) → ((y : ℕ) → n < y → y < n′ → rowParent t y ≢ p) → (y : ℕ) → y < n′ → y < rows t → rowParent t y ≡ p → rowEnd t y ≤ at + elementHeader + wholeHead xs .len
+    closed-on : (n′ : ℕ) → ((y : ℕ) → n < y → y < n′ → rowParent t y ≢ p) → (y : ℕ) → y < n′ → y < rows t → rowParent t y ≡ p → rowEnd t y ≤ at + elementHeader + wholeElement xs .len
     closed-on n′ none y l h e = go (decLt y n) (ℕ-discrete y n)
       where
-        go : Dec (y < n) → Dec (y ≡ n) → rowEnd t y ≤ at + elementHeader + wholeHead xs .len
+        go : Dec (y < n) → Dec (y ≡ n) → rowEnd t y ≤ at + elementHeader + wholeElement xs .len
         go (yes f) g = omega (arith, s .closed y f h e)
         go (no f) (yes g) = let z : rowEnd t y ≡ rowEnd t n = ap (rowEnd t) g in omega (arith, z, end-is)
         go (no f) (no g) = absurd (none y (omega arith) l e)
 
     -- not entered: q is not in it
-    alone-past : entered b k v ms (wholeHead xs) ≡ 0 → rowEnd t n ≤ q
+    alone-past : entered b k v ms (wholeElement xs) ≡ 0 → rowEnd t n ≤ q
     alone-past e = go (decLt q (rowEnd t n))
       where
         go : Dec (q < rowEnd t n) → rowEnd t n ≤ q
         go (yes l) = absurd (not-level b fine k m t x q (c .covers) v p n at xs ms w pos bef e (in-it l (c .cut-here .0) refl (decLt n (c .cut-here .0)) .1))
         go (no l) = omega arith
 
-    alone-stands : entered b k v ms (wholeHead xs) ≡ 0
-        → Stands v p (n + 1) (at + elementHeader + wholeHead xs .len) (drop (elementHeader + wholeHead xs .len) xs) (marked b k v ms (wholeHead xs))
+    alone-stands : entered b k v ms (wholeElement xs) ≡ 0
+        → Stands v p (n + 1) (at + elementHeader + wholeElement xs .len) (drop (elementHeader + wholeElement xs .len) xs) (marked b k v ms (wholeElement xs))
     alone-stands e = record {
       ready = alone-ready b fine k m t x q (c .covers) v p n at xs ms w pos bef e;
       from = omega (arith, s .from);
@@ -186,8 +188,8 @@ module _ (b : Book) (fine : sound b ≡ true) (k : ℕ) (m t : List ℕ) (q : �
       closed = closed-on (n + 1) (λ y a d. absurd (omega arith));
     }
 
-    module _ (g : ℕ) (e : entered b k v ms (wholeHead xs) ≡ suc g) where
-      inside-stands : q < rowEnd t n → Stands (suc g) (n + 1) (n + 1) (at + elementHeader) (take (wholeHead xs .len) (drop elementHeader xs)) fresh
+    module _ (g : ℕ) (e : entered b k v ms (wholeElement xs) ≡ suc g) where
+      inside-stands : q < rowEnd t n → Stands (suc g) (n + 1) (n + 1) (at + elementHeader) (take (wholeElement xs .len) (drop elementHeader xs)) fresh
       inside-stands l =
           let z : n + 1 ≡ suc n = omega arith in
           let place = the-place b fine k m t x q (c .covers) v p n at xs ms w pos bef in record {
@@ -198,9 +200,9 @@ module _ (b : Book) (fine : sound b ≡ true) (k : ℕ) (m t : List ℕ) (q : �
             closed = λ y f h u. absurd (omega (arith, backward b k m t x y h, u, f));
           }
 
-      module _ (u : Built b fine k m t x q (c .covers) (suc g) (n + 1) (n + 1) (at + elementHeader) (take (wholeHead xs .len) (drop elementHeader xs)) fresh) where
+      module _ (u : Built b fine k m t x q (c .covers) (suc g) (n + 1) (n + 1) (at + elementHeader) (take (wholeElement xs .len) (drop elementHeader xs)) fresh) where
         group-stands : rowEnd t n ≤ q
-            → Stands v p (n + 1 + length (u .es)) (at + elementHeader + wholeHead xs .len) (drop (elementHeader + wholeHead xs .len) xs) (marked b k v ms (wholeHead xs))
+            → Stands v p (n + 1 + length (u .es)) (at + elementHeader + wholeElement xs .len) (drop (elementHeader + wholeElement xs .len) xs) (marked b k v ms (wholeElement xs))
         group-stands l = record {
           ready = group-ready b fine k m t x q (c .covers) v p n at xs ms w pos bef g e u;
           from = omega (arith, s .from);
@@ -215,32 +217,33 @@ module _ (b : Book) (fine : sound b ≡ true) (k : ℕ) (m t : List ℕ) (q : �
   Cuts f = (v p n at : ℕ) (xs ms : List ℕ) → length xs ≤ f → Stands v p n at xs ms → CutAt b k v ms n at xs q
 
   step-group : (f : ℕ) → Cuts f → (v p n at : ℕ) (xs ms : List ℕ) → length xs ≤ suc f → (s : Stands v p n at xs ms) (pos : 0 < length xs) (bef : at < q)
-      → (g : ℕ) → entered b k v ms (wholeHead xs) ≡ suc g → Dec (q < rowEnd t n) → CutAt b k v ms n at xs q
+      → (g : ℕ) → entered b k v ms (wholeElement xs) ≡ suc g → Dec (q < rowEnd t n) → CutAt b k v ms n at xs q
   step-group f rec v p n at xs ms l s pos bef g e (yes h) =
-      within (wholeHead xs) g (row-at b fine k m t x q (c .covers) v p n at xs ms (s .ready) pos bef .at-head) e
-      (rec (suc g) (n + 1) (n + 1) (at + elementHeader) (take (wholeHead xs .len) (drop elementHeader xs)) fresh (omega (arith, inside-shorter (wholeHead xs .len) xs pos))
+      within (wholeElement xs) g (row-at b fine k m t x q (c .covers) v p n at xs ms (s .ready) pos bef .at-head) e
+      (rec (suc g) (n + 1) (n + 1) (at + elementHeader) (take (wholeElement xs .len) (drop elementHeader xs)) fresh (omega (arith, inside-shorter (wholeElement xs .len) xs pos))
       (inside-stands v p n at xs ms s pos bef g e h))
   step-group f rec v p n at xs ms l s pos bef g e (no h) =
       let z : n + 1 ≡ suc n = omega arith in
-      let u = build b fine k m t x q (c .covers) (suc g) (n + 1) (n + 1) (at + elementHeader) (take (wholeHead xs .len) (drop elementHeader xs)) fresh (rw z (omega arith))
+      let u = build b fine k m t x q (c .covers) (suc g) (n + 1) (n + 1) (at + elementHeader) (take (wholeElement xs .len) (drop elementHeader xs)) fresh (rw z (omega arith))
       (inside-ready b fine k m t x q (c .covers) v p n at xs ms (s .ready) pos bef g e) in
-      behind (wholeHead xs) g (row-at b fine k m t x q (c .covers) v p n at xs ms (s .ready) pos bef .at-head) e (u .met)
-      (rec v p (n + 1 + length (u .es)) (at + elementHeader + wholeHead xs .len) (drop (elementHeader + wholeHead xs .len) xs) (marked b k v ms (wholeHead xs))
-      (omega (arith, rest-shorter (wholeHead xs .len) xs pos)) (group-stands v p n at xs ms s pos bef g e u (omega arith)))
+      behind (wholeElement xs) g (row-at b fine k m t x q (c .covers) v p n at xs ms (s .ready) pos bef .at-head) e (u .met)
+      (rec v p (n + 1 + length (u .es)) (at + elementHeader + wholeElement xs .len) (drop (elementHeader + wholeElement xs .len) xs) (marked b k v ms (wholeElement xs))
+      (omega (arith, rest-shorter (wholeElement xs .len) xs pos)) (group-stands v p n at xs ms s pos bef g e u (omega arith)))
 
   step : (f : ℕ) → Cuts f → (v p n at : ℕ) (xs ms : List ℕ) → length xs ≤ suc f → (s : Stands v p n at xs ms) (pos : 0 < length xs) (bef : at < q)
-      → (g : ℕ) → entered b k v ms (wholeHead xs) ≡ g → CutAt b k v ms n at xs q
+      → (g : ℕ) → entered b k v ms (wholeElement xs) ≡ g → CutAt b k v ms n at xs q
   step f rec v p n at xs ms l s pos bef zero e =
-      later (wholeHead xs) (row-at b fine k m t x q (c .covers) v p n at xs ms (s .ready) pos bef .at-head) e
-      (rec v p (n + 1) (at + elementHeader + wholeHead xs .len) (drop (elementHeader + wholeHead xs .len) xs) (marked b k v ms (wholeHead xs))
-      (omega (arith, rest-shorter (wholeHead xs .len) xs pos)) (alone-stands v p n at xs ms s pos bef e))
+      later (wholeElement xs) (row-at b fine k m t x q (c .covers) v p n at xs ms (s .ready) pos bef .at-head) e
+      (rec v p (n + 1) (at + elementHeader + wholeElement xs .len) (drop (elementHeader + wholeElement xs .len) xs) (marked b k v ms (wholeElement xs))
+      (omega (arith, rest-shorter (wholeElement xs .len) xs pos)) (alone-stands v p n at xs ms s pos bef e))
   step f rec v p n at xs ms l s pos bef (suc g) e = step-group f rec v p n at xs ms l s pos bef g e (decLt q (rowEnd t n))
 
   at-q : (v p n at : ℕ) (xs ms : List ℕ) → Stands v p n at xs ms → 0 < length xs → at ≡ q → CutAt b k v ms n at xs q
+  unfolding seen
   at-q v p n at xs ms s pos e = subst (λ (z : ℕ). CutAt b k v ms n at xs z) e (here pos (not-whole v p n at xs ms s e))
 
   choose : (f : ℕ) → Cuts f → (v p n at : ℕ) (xs ms : List ℕ) → length xs ≤ suc f → Stands v p n at xs ms → 0 < length xs → Dec (at < q) → CutAt b k v ms n at xs q
-  choose f rec v p n at xs ms l s pos (yes h) = step f rec v p n at xs ms l s pos h (entered b k v ms (wholeHead xs)) refl
+  choose f rec v p n at xs ms l s pos (yes h) = step f rec v p n at xs ms l s pos h (entered b k v ms (wholeElement xs)) refl
   choose f rec v p n at xs ms l s pos (no h) = at-q v p n at xs ms s pos (omega (arith, s .low))
 
   cuts : (f : ℕ) → Cuts f

@@ -8,23 +8,22 @@ use Prim.Native.Nat.{ℕ, zero, suc, _+_, _-_, _≤_, _<_}
 use native.Mathlib.Omega.{arith}
 use native.Mathlib.Decide.{decLt, ℕ-discrete}
 use lib.ListN.{length, drop, length-append, length-drop}
-use lib.Seq.{getD-drop}
 use Rattle.rules.specs.Framing.{octet, twoOctets, elementHeader, valueLength, headOf, headerLength, messageType}
 use Rattle.rules.specs.Listings.{Book, isMessage}
 use Rattle.rules.specs.Standing.{Item, fresh, itemOf, valueEnd}
 use Rattle.rules.specs.Taking.{bodyLevel}
 use Rattle.rules.specs.Sound.{sound}
+use Rattle.rules.specs.Frames.{seen}
 use Rattle.rules.specs.Values.{rowParent, rowPlace}
 use Rattle.rules.specs.declared.Head.{Head}
-use Rattle.rules.proofs.Heads.{wholeHead, fits, rest-length, value-length}
+use Rattle.rules.proofs.Heads.{wholeHead, room-whole, fits, rest-length, value-length}
 use Rattle.rules.specs.Table.{nth}
 use Rattle.rules.proofs.Rows.{every-at}
 use Rattle.rules.proofs.Places.{parents, Stand, stand-head, stand-tail, stand-left, stand-right}
 use Rattle.tables.specs.Words.{rows, rowEnd, IsLevel, levelFrom, levelTo, CoversTo}
 use Rattle.verdicts.specs.IsCut.{CutHere, IsCut}
 use Rattle.rules.proofs.Walked.{met-walked}
-use Rattle.tables.proofs.Faithful.{Sub, sub-drop, sub-take}
-use Rattle.verdicts.proofs.Rebuilding.{head-whole}
+use Rattle.tables.proofs.Faithful.{Sub, sub-octet, sub-body, sub-drop, sub-take}
 use Rattle.verdicts.proofs.Parts.{Part, here, later, within, behind, leftOf, part-walked, part-before, cover-to, cover-inside-to}
 use Rattle.tables.proofs.RightRows.{Same, same, count, back, over, is-group, is-entered, is-rows}
 use Rattle.tables.specs.IsTable.{IsOf}
@@ -39,7 +38,7 @@ too-long xs e = go (decLt (length xs) elementHeader) (decLt (length xs) (element
     go (yes l) d = inl l
     go (no l) (yes d) = inr d
     go (no l) (no d) =
-        let w : headOf xs ≡ wholeHead xs = head-whole xs (omega arith) (omega arith) in
+        let w : headOf xs ≡ wholeHead xs = room-whole xs (omega arith) in
         let y : headOf xs .whole ≡ true = ap (λ (h : Head). h .whole) w in
         let z : _≡_ {A = ℕ} 0 1 = cc in absurd (omega arith)
 
@@ -101,14 +100,14 @@ module _ (b : Book) (fine : sound b ≡ true) (k : ℕ) (m t : List ℕ) (es : L
       go (inl l) (no f) = absurd (f l)
       go (inr l) (no f) =
           let y : at + 2 ≡ at + 1 + 1 = omega arith in
-          let o₁ : octet xs 1 ≡ octet m (at + 1) = s .sub 1 (omega arith) in
-          let o₂ : octet xs 2 ≡ octet m (at + 1 + 1) = rw y at (s .sub 2 (omega arith)) in
+          let o₁ : octet xs 1 ≡ octet m (at + 1) = sub-octet m at xs (s .sub) 1 (omega arith) in
+          let o₂ : octet xs 2 ≡ octet m (at + 1 + 1) = rw y at (sub-octet m at xs (s .sub) 2 (omega arith)) in
           inr (omega (arith, l, s .ends-at, o₁, o₂))
 
   -- the level that goes on there, and where it ends
   find : {v : ℕ} {ms : List ℕ} {p n at : ℕ} {xs : List ℕ} {fs : List Item} {o : ℕ} (d : Part b k v ms p n at xs fs o) → Stand es n fs → n + length fs ≡ length es → At-level p n at xs
       → (u : ℕ) × CutHere m t o u × (levelTo m t u ≡ o + leftOf d)
-  unfolding itemOf leftOf
+  unfolding itemOf leftOf seen
   find (here {p = p} {n = n} {at = at} {xs = xs} pos w) s z a = (p, stop p n at xs a (omega arith) pos w, sym (a .ends-at))
   find (later {p = p} {n = n} {at = at} {xs = xs} {es = fs} h w e g) s z a =
       let r = row n (omega (arith, s .room)) in
@@ -128,7 +127,7 @@ module _ (b : Book) (fine : sound b ≡ true) (k : ℕ) (m t : List ℕ) (es : L
         from = omega (arith, f₁);
         ends-at = omega (arith, f, value-length xs (h .len) (fits w));
         under = omega arith;
-        sub = sub-take m (at + elementHeader) (h .len) (drop elementHeader xs) (sub-drop m at elementHeader (at + elementHeader) xs (omega arith) (a .sub));
+        sub = sub-take m (at + elementHeader) (h .len) (drop elementHeader xs) (omega (arith, fits w, length-drop elementHeader xs)) (sub-drop m at elementHeader (at + elementHeader) xs (omega arith) (a .sub));
         closed = λ c l j v. absurd (omega (arith, back b fine k m t es ok walked body listed c j, row c j .parent, v, l));
       }))
   find (behind {p = p} {n = n} {at = at} {xs = xs} {is = is} {es = fs} h g w e u v) s z a =
@@ -158,7 +157,7 @@ module _ (b : Book) (fine : sound b ≡ true) (k : ℕ) (m t : List ℕ) (es : L
     from = omega arith;
     ends-at = omega (arith, length-drop (headerLength m) m);
     under = omega arith;
-    sub = λ j l. getD-drop (headerLength m) m j 0;
+    sub = sub-body m (headerLength m);
     closed = λ y l. absurd (omega arith);
   })
 

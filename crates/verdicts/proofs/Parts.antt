@@ -7,12 +7,12 @@ use Prim.Native.Nat.{ℕ, zero, suc, _+_, _≤_, _<_}
 use native.Mathlib.Omega.{arith}
 use native.Mathlib.Decide.{decLt}
 use lib.ListN.{length, take, drop, length-append}
-use Rattle.rules.specs.Framing.{elementHeader, headOf}
+use Rattle.rules.specs.Framing.{elementHeader}
 use Rattle.rules.specs.Listings.{Book}
 use Rattle.rules.specs.Standing.{Item, fresh, itemOf, marked, entered}
 use Rattle.rules.specs.Taking.{Out, cut, whole, after, walk, addItem, atEnd}
 use Rattle.rules.specs.Met.{At, Met, CutAt}
-use Rattle.rules.specs.declared.Head.{Head}
+use Rattle.rules.specs.Frames.{Element, seen}
 use Rattle.rules.proofs.Heads.{fits, rest-length, value-length}
 use Rattle.rules.proofs.Walks.{walk-cut}
 use Rattle.rules.proofs.Mets.{walk-alone, walk-group, met-walk, add-number, made-items}
@@ -23,14 +23,14 @@ use Rattle.tables.proofs.Filling.{Covered, cover-here, cover-own, Inner, among-
 
 -- level, marks, parent, rows before, place of the first octet left, octets left, elements, place of the cut
 pub data Part (b : Book) (k : ℕ) : ℕ → List ℕ → ℕ → ℕ → ℕ → List ℕ → List Item → ℕ → Type 0 where
-  here : {v : ℕ} {m : List ℕ} {p n at : ℕ} {xs : List ℕ} → 0 < length xs → headOf xs .whole ≡ false → Part b k v m p n at xs [] at
-  later : {v : ℕ} {m : List ℕ} {p n at : ℕ} {xs : List ℕ} {es : List Item} {q : ℕ} (h : Head) → At xs h → entered b k v m h ≡ 0
+  here : {v : ℕ} {m : List ℕ} {p n at : ℕ} {xs : List ℕ} → 0 < length xs → seen xs .whole ≡ false → Part b k v m p n at xs [] at
+  later : {v : ℕ} {m : List ℕ} {p n at : ℕ} {xs : List ℕ} {es : List Item} {q : ℕ} (h : Element) → At xs h → entered b k v m h ≡ 0
       → Part b k v (marked b k v m h) p (n + 1) (at + elementHeader + h .len) (drop (elementHeader + h .len) xs) es q
       → Part b k v m p n at xs (itemOf b k v m p at h ∷ es) q
-  within : {v : ℕ} {m : List ℕ} {p n at : ℕ} {xs : List ℕ} {is : List Item} {q : ℕ} (h : Head) (g : ℕ) → At xs h → entered b k v m h ≡ suc g
+  within : {v : ℕ} {m : List ℕ} {p n at : ℕ} {xs : List ℕ} {is : List Item} {q : ℕ} (h : Element) (g : ℕ) → At xs h → entered b k v m h ≡ suc g
       → Part b k (suc g) fresh (n + 1) (n + 1) (at + elementHeader) (take (h .len) (drop elementHeader xs)) is q
       → Part b k v m p n at xs (itemOf b k v m p at h ∷ (is ++ [])) q
-  behind : {v : ℕ} {m : List ℕ} {p n at : ℕ} {xs : List ℕ} {is es : List Item} {q : ℕ} (h : Head) (g : ℕ) → At xs h → entered b k v m h ≡ suc g
+  behind : {v : ℕ} {m : List ℕ} {p n at : ℕ} {xs : List ℕ} {is es : List Item} {q : ℕ} (h : Element) (g : ℕ) → At xs h → entered b k v m h ≡ suc g
       → Met b k (suc g) fresh (n + 1) (n + 1) (at + elementHeader) (take (h .len) (drop elementHeader xs)) is
       → Part b k v (marked b k v m h) p (n + 1 + length is) (at + elementHeader + h .len) (drop (elementHeader + h .len) xs) es q
       → Part b k v m p n at xs (itemOf b k v m p at h ∷ (is ++ es)) q

@@ -9,10 +9,10 @@ use mathlib.Core.List.{List, [], _∷_, _++_}
 use Prim.Native.Nat.{ℕ, zero, suc, _+_, _-_, _%_, _≤_, _<_}
 use native.Mathlib.Omega.{arith}
 use native.Mathlib.Decide.{decLt, ℕ-discrete}
-use borrow.Author.Tests.{le-leb, eqb-false}
+use borrow.Author.Tests.{eqb-false}
 use lib.Dec.{eqb}
-use lib.ListN.{length, take, drop, getD, length-append, List·getD-append}
-use lib.Seq.{getD-append-add}
+use lib.ListN.{length, take, drop, getD, length-append, length-drop, List·getD-append}
+use lib.Seq.{getD-append-add, take-take}
 use Rattle.rules.specs.Sizes.{rowNumbers}
 use Rattle.rules.specs.Framing.{octet, elementHeader, valueLength, headOf}
 use Rattle.rules.specs.Listings.{Book, Line}
@@ -22,8 +22,8 @@ use Rattle.rules.specs.Met.{At, Met, ends, alone, group}
 use Rattle.rules.specs.Table.{row, noItem, nth}
 use Rattle.rules.specs.Sound.{sound}
 use Rattle.rules.specs.Values.{cell, rowParent, rowType, rowInstance, rowPlace, rowLength, rowStanding}
-use Rattle.rules.specs.declared.Head.{Head}
-use Rattle.rules.proofs.Heads.{wholeHead, fits, rest-length, value-length}
+use Rattle.rules.specs.Frames.{Element, element, seen, framesOf}
+use Rattle.rules.proofs.Heads.{wholeHead, room-whole, fits, rest-length, value-length}
 use Rattle.rules.proofs.Walks.{inside-shorter, rest-shorter}
 use Rattle.rules.proofs.Rows.{every-at}
 use Rattle.rules.proofs.Places.{parents}
@@ -36,7 +36,7 @@ use Rattle.tables.proofs.Standings.{stands-once, kept-iff}
 use Rattle.tables.proofs.Levels.{level-next, level-group, group-level}
 use Rattle.tables.proofs.Trees.{start-is, backward, inner, past}
 use Rattle.tables.proofs.Tiling.{Next, opens, goes-on}
-use Rattle.tables.proofs.Faithful.{Sub, sub-drop, sub-take}
+use Rattle.tables.proofs.Faithful.{Sub, sub-octet, sub-drop, sub-take}
 
 -- ---- the rows of a table from n on are the elements es
 
@@ -62,11 +62,14 @@ matches-append t n is es a d = record { room = omega (arith, d .room, length-app
         let w : nth (is ++ es) j ≡ nth es (j - length is) = ap (nth (is ++ es)) z ∙ getD-append-add is es (j - length is) noItem in
         rw e (d .same (j - length is) (omega (arith, length-append is es)) c h ∙ ap (λ (i : Item). getD (row i) c 0) (sym w))
 
--- ---- a head that fits is whole
+-- ---- an element that fits
 
-pub head-whole : (xs : List ℕ) → elementHeader ≤ length xs → valueLength xs ≤ length xs - elementHeader → headOf xs ≡ wholeHead xs
-unfolding headOf
-head-whole xs a c = rw (le-leb elementHeader (length xs) a, le-leb (valueLength xs) (length xs - elementHeader) c)
+abbrev pub wholeElement : List ℕ → Element
+wholeElement xs = element (wholeHead xs) (framesOf (take (valueLength xs) (drop elementHeader xs)))
+
+seen-whole : (xs : List ℕ) → headOf xs ≡ wholeHead xs → seen xs ≡ wholeElement xs
+unfolding seen
+seen-whole xs e = rw e
 
 module _ (b : Book) (fine : sound b ≡ true) (k : ℕ) (m t : List ℕ) (x : IsRows b k m t) (q : ℕ) (covers : CoversTo m t q) where
   abbrev levelIs : ℕ → ℕ
@@ -93,7 +96,7 @@ module _ (b : Book) (fine : sound b ≡ true) (k : ℕ) (m t : List ℕ) (x : Is
   -- ---- the row at the head
 
   -- what is known of it
-  pub record Here (v p n at : ℕ) (xs ms : List ℕ) (h : Head) : Type 0 where
+  pub record Here (v p n at : ℕ) (xs ms : List ℕ) (h : Element) : Type 0 where
     pub there : n < rows t
     pub at-head : At xs h
     pub is : RowIs m t p at n h
@@ -112,24 +115,24 @@ module _ (b : Book) (fine : sound b ≡ true) (k : ℕ) (m t : List ℕ) (x : Is
     the-end = let i : rowEnd t n ≤ levelTo m t p = rw (nx .parent) at (x .inside n (nx .there) .ends) in omega (arith, i, r .ends-at)
 
     o₀ : octet xs 0 ≡ octet m at
-    o₀ = let z : at + 0 ≡ at = omega arith in rw z at (r .sub 0 (omega arith))
+    o₀ = let z : at + 0 ≡ at = omega arith in rw z at (sub-octet m at xs (r .sub) 0 (omega arith))
 
     o₁ : octet xs 1 ≡ octet m (at + 1)
-    o₁ = r .sub 1 (omega (arith, the-place, the-end))
+    o₁ = sub-octet m at xs (r .sub) 1 (omega (arith, the-place, the-end))
 
     o₂ : octet xs 2 ≡ octet m (at + 1 + 1)
-    o₂ = let z : at + 2 ≡ at + 1 + 1 = omega arith in rw z at (r .sub 2 (omega (arith, the-place, the-end)))
+    o₂ = let z : at + 2 ≡ at + 1 + 1 = omega arith in rw z at (sub-octet m at xs (r .sub) 2 (omega (arith, the-place, the-end)))
 
     o₃ : octet xs 3 ≡ octet m (at + 3)
-    o₃ = r .sub 3 (omega (arith, the-place, the-end))
+    o₃ = sub-octet m at xs (r .sub) 3 (omega (arith, the-place, the-end))
 
     the-len : rowLength t n ≡ valueLength xs
     the-len = rw (o₁, o₂, ← nx .start) (x .faithful n (nx .there) .len)
 
     pub head-here : headOf xs ≡ wholeHead xs
-    head-here = head-whole xs (omega (arith, the-place, the-end)) (omega (arith, the-place, the-end, the-len))
+    head-here = room-whole xs (omega (arith, the-place, the-end, the-len))
 
-    row-here : RowIs m t p at n (wholeHead xs)
+    row-here : RowIs m t p at n (wholeElement xs)
     row-here = record {
       parent = nx .parent;
       typ = x .faithful n (nx .there) .typ ∙ ap (octet m) (nx .start) ∙ sym o₀;
@@ -138,11 +141,16 @@ module _ (b : Book) (fine : sound b ≡ true) (k : ℕ) (m t : List ℕ) (x : Is
       len = the-len;
       first = ap (λ (l : ℕ). cond (eqb l 0) 0 (octet m (rowPlace t n))) the-len
           ∙ same-first (octet m (rowPlace t n)) (octet xs elementHeader) (eqb (valueLength xs) 0)
-          (λ c. ap (octet m) the-place ∙ sym (r .sub elementHeader (omega (arith, eqb-false (valueLength xs) 0 c, the-place, the-end, the-len))));
+          (λ c. ap (octet m) the-place ∙ sym (sub-octet m at xs (r .sub) elementHeader (omega (arith, eqb-false (valueLength xs) 0 c, the-place, the-end, the-len))));
+      within =
+          let d : drop elementHeader xs ≡ take (length (drop elementHeader xs)) (drop (at + elementHeader) m) = sub-drop m at elementHeader (at + elementHeader) xs refl (r .sub) in
+          let f : valueLength xs ≤ length (drop elementHeader xs) = omega (arith, the-place, the-end, the-len, length-drop elementHeader xs) in
+          ap (λ (c : ℕ). framesOf (take c (drop (rowPlace t n) m))) the-len ∙ ap (λ (c : ℕ). framesOf (take (valueLength xs) (drop c m))) the-place
+          ∙ ap framesOf (sym (ap (take (valueLength xs)) d ∙ take-take (valueLength xs) (length (drop elementHeader xs)) (drop (at + elementHeader) m) f));
     }
 
-    abbrev h : Head
-    h = wholeHead xs
+    abbrev h : Element
+    h = wholeElement xs
 
     stand-here : rowStanding t n ≡ standing b k v ms h
     stand-here = stands-once b k m t n (x .standing n (nx .there)) (stands b k m t v p at n ms h (r .tells) (r .lev) row-here)
@@ -170,7 +178,7 @@ module _ (b : Book) (fine : sound b ≡ true) (k : ℕ) (m t : List ℕ) (x : Is
     pub here : Here v p n at xs ms h
     here = record {
       there = nx .there;
-      at-head = record { is = head-here; whole = refl };
+      at-head = record { is = seen-whole xs head-here; whole = refl };
       is = row-here;
       stand = stand-here;
       inside = inside-here;
@@ -253,7 +261,7 @@ module _ (b : Book) (fine : sound b ≡ true) (k : ℕ) (m t : List ℕ) (x : Is
             level = group-here;
             lev = inside-here ∙ e;
             ends-at = omega (arith, value-length xs (h .len) (fits (here .at-head)), here .end-is);
-            sub = sub-take m (at + elementHeader) (h .len) (drop elementHeader xs) (sub-drop m at elementHeader (at + elementHeader) xs (omega arith) (r .sub));
+            sub = sub-take m (at + elementHeader) (h .len) (drop elementHeader xs) (omega (arith, fits (here .at-head), length-drop elementHeader xs)) (sub-drop m at elementHeader (at + elementHeader) xs (omega arith) (r .sub));
             under = omega arith;
             room = nx .there;
             next = first-row;
@@ -298,18 +306,18 @@ module _ (b : Book) (fine : sound b ≡ true) (k : ℕ) (m t : List ℕ) (x : Is
   }
 
   step : (f : ℕ) → Builds f → (v p n at : ℕ) (xs ms : List ℕ) → length xs ≤ suc f → (pos : 0 < length xs) (bef : at < q) → levelTo m t p ≤ q → Ready v p n at xs ms
-      → (g : ℕ) → entered b k v ms (wholeHead xs) ≡ g → Built v p n at xs ms
+      → (g : ℕ) → entered b k v ms (wholeElement xs) ≡ g → Built v p n at xs ms
   step f rec v p n at xs ms l pos bef z r zero e =
       alone-built v p n at xs ms r pos bef e
-      (rec v p (n + 1) (at + elementHeader + wholeHead xs .len) (drop (elementHeader + wholeHead xs .len) xs) (marked b k v ms (wholeHead xs))
-      (omega (arith, rest-shorter (wholeHead xs .len) xs pos)) z (alone-ready v p n at xs ms r pos bef e))
+      (rec v p (n + 1) (at + elementHeader + wholeElement xs .len) (drop (elementHeader + wholeElement xs .len) xs) (marked b k v ms (wholeElement xs))
+      (omega (arith, rest-shorter (wholeElement xs .len) xs pos)) z (alone-ready v p n at xs ms r pos bef e))
   step f rec v p n at xs ms l pos bef z r (suc g) e =
       let y : n + 1 ≡ suc n = omega arith in
-      let s = rec (suc g) (n + 1) (n + 1) (at + elementHeader) (take (wholeHead xs .len) (drop elementHeader xs)) fresh
-      (omega (arith, inside-shorter (wholeHead xs .len) xs pos)) (rw y (omega (arith, the-end v p n at xs ms r pos bef, r .ends-at, z))) (inside-ready v p n at xs ms r pos bef g e) in
+      let s = rec (suc g) (n + 1) (n + 1) (at + elementHeader) (take (wholeElement xs .len) (drop elementHeader xs)) fresh
+      (omega (arith, inside-shorter (wholeElement xs .len) xs pos)) (rw y (omega (arith, the-end v p n at xs ms r pos bef, r .ends-at, z))) (inside-ready v p n at xs ms r pos bef g e) in
       group-built v p n at xs ms r pos bef g e s
-      (rec v p (n + 1 + length (s .es)) (at + elementHeader + wholeHead xs .len) (drop (elementHeader + wholeHead xs .len) xs) (marked b k v ms (wholeHead xs))
-      (omega (arith, rest-shorter (wholeHead xs .len) xs pos)) z (group-ready v p n at xs ms r pos bef g e s))
+      (rec v p (n + 1 + length (s .es)) (at + elementHeader + wholeElement xs .len) (drop (elementHeader + wholeElement xs .len) xs) (marked b k v ms (wholeElement xs))
+      (omega (arith, rest-shorter (wholeElement xs .len) xs pos)) z (group-ready v p n at xs ms r pos bef g e s))
 
   builds : (f : ℕ) → Builds f
   builds zero v p n at [] ms l z r = built-none v p n at ms r
@@ -317,7 +325,7 @@ module _ (b : Book) (fine : sound b ≡ true) (k : ℕ) (m t : List ℕ) (x : Is
   builds zero v p n at (o ∷ xs) ms l z r = absurd (omega arith)
   builds (suc f) v p n at (o ∷ xs) ms l z r =
       step f (λ v′ p′ n′ at′ ys ns c w u. builds f v′ p′ n′ at′ ys ns c w u) v p n at (o ∷ xs) ms l (omega arith) (omega (arith, r .ends-at, z)) z r
-      (entered b k v ms (wholeHead (o ∷ xs))) refl
+      (entered b k v ms (wholeElement (o ∷ xs))) refl
 
   -- the level ends before q
   pub build : (v p n at : ℕ) (xs ms : List ℕ) → levelTo m t p ≤ q → Ready v p n at xs ms → Built v p n at xs ms

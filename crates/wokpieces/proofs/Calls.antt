@@ -26,16 +26,16 @@ use Rattle.wokpieces.proofs.Twos.{numbers-take, laid-by, zeros-read}
 
 -- ---- the start
 
-pub start-short : (kind : ℕ) (state table : List ℕ) → length state < 208 → StartedOctets kind state table 17 state table
+pub start-short : (kind : ℕ) (state table : List ℕ) → length state < stateSize → StartedOctets kind state table 17 state table
 unfolding keptIn
 start-short kind state table l =
-    let e = lt-ltb (length state) 208 l in
+    let e = lt-ltb (length state) stateSize l in
     record { answers = rw e; state-left = rw e; table-left = rw e }
 
-pub start-done : (kind : ℕ) (state table : List ℕ) {p : Pieces} {state′ t : List ℕ} → 208 ≤ length state → p ≡ startOf kind (tableRoom table) → state′ ≡ keptIn p state
+pub start-done : (kind : ℕ) (state table : List ℕ) {p : Pieces} {state′ t : List ℕ} → stateSize ≤ length state → p ≡ startOf kind (tableRoom table) → state′ ≡ keptIn p state
     → t ≡ replicate (length (take (2 * tableRoom table) table)) 0 → Octets (t ++ drop (2 * tableRoom table) table) → StartedOctets kind state table 0 state′ (t ++ drop (2 * tableRoom table) table)
 start-done kind state table {p} {state′} {t} l hp hs ht o =
-    let e = le-ltb (length state) 208 l in
+    let e = le-ltb (length state) stateSize l in
     let n = tableRoom table in
     let m : length (take (2 * n) table) ≡ 2 * n = omega (arith, length-take (2 * n) table) in
     let z : t ≡ replicate (2 * n) 0 = ht ∙ ap (λ (j : ℕ). replicate j 0) m in
@@ -52,14 +52,14 @@ half-of table = (omega (arith, length-take (2 * tableRoom table) table), omega (
 -- ---- what is taken
 
 module _ (state : List ℕ) (room : ℕ) where
-  pub taken-short : length state < 208 → Takes state room false
-  taken-short l = record { is = rw (lt-ltb (length state) 208 l); long = λ e. absurd (never e); fits = λ e. absurd (never e) }
+  pub taken-short : length state < stateSize → Takes state room false
+  taken-short l = record { is = rw (lt-ltb (length state) stateSize l); long = λ e. absurd (never e); fits = λ e. absurd (never e) }
     where
       never : false ≡ true → ⊥
       never e = let z : _≡_ {A = ℕ} 0 1 = cc in omega arith
 
-  pub taken-by : {p : Pieces} {r : Bool} → 208 ≤ length state → p ≡ stateIn state → r ≡ takes p room → (r ≡ true → FitsAll p) → Takes state room r
-  taken-by {p} {r} l e t f = record { is = t ∙ rw (le-ltb (length state) 208 l, e); long = λ z. l; fits = λ z. rw (← e) (f z) }
+  pub taken-by : {p : Pieces} {r : Bool} → stateSize ≤ length state → p ≡ stateIn state → r ≡ takes p room → (r ≡ true → FitsAll p) → Takes state room r
+  taken-by {p} {r} l e t f = record { is = t ∙ rw (le-ltb (length state) stateSize l, e); long = λ z. l; fits = λ z. rw (← e) (f z) }
 
 module _ (state table : List ℕ) {r : Bool} (t : Takes state (tableRoom table) r) where
   is-in : r ≡ takesIn state table
@@ -67,7 +67,7 @@ module _ (state table : List ℕ) {r : Bool} (t : Takes state (tableRoom table) 
   is-in = t .is
 
   taken-in : r ≡ true → takes (stateIn state) (tableRoom table) ≡ true
-  taken-in e = sym (cond-no _ _ _ (le-ltb (length state) 208 (t .long e))) ∙ sym (t .is) ∙ e
+  taken-in e = sym (cond-no _ _ _ (le-ltb (length state) stateSize (t .long e))) ∙ sym (t .is) ∙ e
 
   all-numbers : numbersIn (take (2 * tableRoom table) table) ≡ numbersIn table
   all-numbers = numbers-take (tableRoom table) table ∙ take-all (tableRoom table) (numbersIn table) (omega (arith, numbers-length table))

@@ -14,11 +14,13 @@ use Rattle.rules.specs.Listings.{book}
 use Rattle.rules.specs.Standing.{fresh, marked}
 use Rattle.rules.specs.Taking.{bodyLevel}
 use Rattle.rules.specs.Verdicts.{accepted, openingChecks, refuses, first}
-use Rattle.rules.specs.declared.Head.{Head}
+use Rattle.rules.specs.Frames.{Element}
 use Rattle.rules.proofs.Lines.{and-right}
 use Rattle.rules.proofs.Standings.{marked-length}
 use Rattle.taking.specs.Lacks.{lackOf}
-use Rattle.taking.specs.Held.{noCounts, closed}
+use Rattle.taking.specs.Frames.{apnsOf}
+use Rattle.taking.specs.Held.{noCounts}
+use Rattle.pieces.specs.Drafts.{limitedLevel, backBy}
 use Rattle.taking.specs.declared.Counts.{Counts}
 use Rattle.pieces.specs.declared.Open.{Open}
 use Rattle.pieces.specs.declared.Going.{Going}
@@ -26,7 +28,7 @@ use Rattle.pieces.specs.declared.Pieces.{Pieces}
 use Rattle.pieces.specs.Depth.{deepest}
 use Rattle.pieces.specs.Steps.{opened}
 use Rattle.pieces.specs.Feeding.{countOn}
-use Rattle.pieces.specs.Coded.{noOpen, blankOpen, topOf, withDepth, withHave, stop, closeTop, closeTops, checkTop, settleTop, headBy, beyond, into, placedBy, gatherBy, passOne, idleBy, entryBy, Fed, fedWith, nextHeld, enters, nextOpen, placed, takeBy, headedBy, eatBy, bodyBy, withGoing, headAfter, inHeaderBy, FedPieces, feedBy, feedAllBy}
+use Rattle.pieces.specs.Coded.{noOpen, blankOpen, topOf, withDepth, withHave, stop, closedBy, closeTop, closeTops, checkTop, settleTop, beyond, into, withWatch, watchedBy, gatherBy, passOne, idleBy, entryBy, Fed, fedWith, nextHeld, enters, nextOpen, placed, headOn, takenBy, takeBy, headedBy, eatBy, bodyBy, withGoing, headAfter, inHeaderBy, FedPieces, feedBy, feedAllBy}
 use Rattle.pieces.specs.Fits.{Sized, Fits}
 use Rattle.pieces.specs.Contracts.{FitsAll}
 use Rattle.pieces.specs.declared.Told.{Told}
@@ -62,7 +64,7 @@ same-shape e f s = record { bytes = rw e (s .bytes); slots = rw f (s .slots); ma
 module _ (k : ℕ) where
   close-shape : (w : Going) → Shaped w → Shaped (closeTop k w)
   unfolding closeTop withDepth
-  close-shape w s = go (eqb (w .depth) 0) (eqb (topOf w .left) 0) (closed (w .counts) (lackOf book k (topOf w .level) (topOf w .marks) (topOf w .home)))
+  close-shape w s = go (eqb (w .depth) 0) (eqb (topOf w .left) 0) (closedBy k w)
     where
       go : (c d : Bool) (x : Counts) → Shaped (cond c w (cond d (withDepth w (w .depth - 1) x) w))
       go true d x = s
@@ -90,39 +92,51 @@ module _ (k : ℕ) where
   -- ---- one element
 
   module _ (w : Going) (s : Shaped w) (deep : w .depth ≤ 2) where
-    on-marks : (h : Head) → length (nextOpen k w h .marks) ≡ 32
+    on-marks : (h : Element) → length (nextOpen k w h .marks) ≡ 32
     on-marks h = marked-length book k (topOf w .level) (topOf w .marks) h ∙ s .marks (w .depth - 1) (omega arith)
 
-    placed-shape : (h : Head) (x came : ℕ) (c : Counts) → Shaped (placed k w h x came c)
-    unfolding placed beyond into
-    placed-shape h x came c = go (eqb (enters k w h) 0) (ltb (w .depth) deepest)
+    -- whatever is watched
+    module _ (h : Element) (x came : ℕ) (c : Counts) (v : Going) (levels : v .levels ≡ w .levels) (some : v .some ≡ w .some) (depth : v .depth ≡ w .depth) where
+      past : Shaped (beyond v (nextOpen k w h) (h .len) came c)
+      unfolding beyond
+      past = record {
+        bytes = rw some (s .bytes);
+        slots = rw (levels, depth) (length-set (w .levels) (w .depth - 1) (nextOpen k w h) ∙ s .slots);
+        marks = rw (levels, depth) (set-marks (w .levels) (w .depth - 1) (nextOpen k w h) (s .slots) (on-marks h) (s .marks));
+      }
+
+      within : Shaped (into v (nextOpen k w h) (enters k w h) (h .len) x came c)
+      unfolding into
+      within =
+          let fs = set (w .levels) (w .depth - 1) (nextOpen k w h) in
+          let n = length-set (w .levels) (w .depth - 1) (nextOpen k w h) ∙ s .slots in
+          let f = opened (enters k w h) (c .rows) (v .place) (h .len) in
+          record {
+            bytes = rw some (length-set (w .some) 0 x ∙ s .bytes);
+            slots = rw (levels, depth) (length-set fs (w .depth) f ∙ n);
+            marks = rw (levels, depth) (set-marks fs (w .depth) f n refl (set-marks (w .levels) (w .depth - 1) (nextOpen k w h) (s .slots) (on-marks h) (s .marks)));
+          }
+
+      either : (a d : Bool) → Shaped (cond a (beyond v (nextOpen k w h) (h .len) came c) (cond d (into v (nextOpen k w h) (enters k w h) (h .len) x came c) (beyond v (nextOpen k w h) (h .len) came c)))
+      either true d = past
+      either false true = within
+      either false false = past
+
+    placed-shape : (h : Element) (x came : ℕ) (c : Counts) → Shaped (placed k w h x came c)
+    unfolding placed watchedBy withWatch
+    placed-shape h x came c = go (eqb (enters k w h) 0)
       where
-        past : Shaped (beyond w (nextOpen k w h) (h .len) came c)
-        past = record {
-          bytes = s .bytes;
-          slots = length-set (w .levels) (w .depth - 1) (nextOpen k w h) ∙ s .slots;
-          marks = set-marks (w .levels) (w .depth - 1) (nextOpen k w h) (s .slots) (on-marks h) (s .marks);
-        }
+        v : Bool → Going
+        v a = cond a (withWatch w (w .limited) (w .apns + apnsOf (h .typ) (h .inst)) (w .back)) (withWatch w (limitedLevel (enters k w h)) 0 (backBy (w .counts) c))
 
-        within : Shaped (into w (nextOpen k w h) (enters k w h) (h .len) x came c)
-        within =
-            let fs = set (w .levels) (w .depth - 1) (nextOpen k w h) in
-            let n = length-set (w .levels) (w .depth - 1) (nextOpen k w h) ∙ s .slots in
-            let f = opened (enters k w h) (c .rows) (w .place) (h .len) in
-            record {
-              bytes = length-set (w .some) 0 x ∙ s .bytes;
-              slots = length-set fs (w .depth) f ∙ n;
-              marks = set-marks fs (w .depth) f n refl (set-marks (w .levels) (w .depth - 1) (nextOpen k w h) (s .slots) (on-marks h) (s .marks));
-            }
-
-        go : (a d : Bool) → Shaped (cond a (beyond w (nextOpen k w h) (h .len) came c) (cond d (into w (nextOpen k w h) (enters k w h) (h .len) x came c) (beyond w (nextOpen k w h) (h .len) came c)))
-        go true d = past
-        go false true = within
-        go false false = past
+        go : (a : Bool) → Shaped (cond a (beyond (v a) (nextOpen k w h) (h .len) came c)
+            (cond (ltb (v a .depth) deepest) (into (v a) (nextOpen k w h) (enters k w h) (h .len) x came c) (beyond (v a) (nextOpen k w h) (h .len) came c)))
+        go true = either h x came c (v true) refl refl refl true true
+        go false = either h x came c (v false) refl refl refl false (ltb (v false .depth) deepest)
 
     take-shape : (x came : ℕ) (rows : List ℕ) → Shaped (takeBy k w x came rows .going)
-    unfolding takeBy
-    take-shape x came rows = settle-shape _ (placed-shape (headBy (w .some) x) x came _)
+    unfolding takeBy takenBy
+    take-shape x came rows = settle-shape _ (placed-shape (headOn k w x) x came _)
 
     headed-shape : (rows : List ℕ) → Shaped (headedBy k w rows .going)
     unfolding headedBy stop

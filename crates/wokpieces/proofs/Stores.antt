@@ -5,10 +5,11 @@ use mathlib.Core.Bool.{Bool, true, false, cond, not}
 use mathlib.Core.List.{List, [], _∷_, _++_, append-nil}
 use Prim.Native.Nat.{ℕ, zero, suc, _+_, _-_, _*_, _/_, _≤_, _<_}
 use native.Mathlib.Omega.{arith}
-use borrow.Author.Tests.{leb-true, leb-false, le-leb, lt-leb, lt-ltb}
-use lib.Dec.{leb}
+use native.Mathlib.Nat.{pos-of-ne-zero}
+use borrow.Author.Tests.{leb-true, leb-false, le-leb, lt-leb, lt-ltb, le-ltb, eq-eqb, ne-eqb}
+use lib.Dec.{eqb, ltb, leb}
 use lib.ListN.{length, getD, set, take, drop, replicate, length-set, length-append, length-replicate, length-take, length-drop, drop-of-length-le}
-use lib.Seq.{take-all, take-take}
+use lib.Seq.{set-out, take-all, take-take}
 use Rattle.rules.specs.Sizes.{headerNumbers, rowNumbers, used}
 use Rattle.rules.specs.Framing.{octet, messageType}
 use Rattle.rules.specs.Octets.{octetsOf, numbersIn, tableRoom}
@@ -21,12 +22,13 @@ use Rattle.taking.specs.Held.{putNumbers}
 use Rattle.octets.specs.Stored.{put2}
 use Rattle.pieces.specs.declared.Pieces.{Pieces}
 use Rattle.pieces.specs.Feeding.{zeros}
-use Rattle.pieces.specs.Coded.{rowIf, feedAllBy}
+use Rattle.pieces.specs.Drafts.{blanks, standVoid, voided, backTo}
+use Rattle.pieces.specs.Coded.{rowPut, rowIf, feedAllBy}
 use Rattle.pieces.specs.Answers.{takes, readingBy, verdictBy, endTable}
 use Rattle.pieces.proofs.Accepting.{accepting, cond-yes, cond-no, not-so, not-not}
 use Rattle.pieces.proofs.Main.{all-length}
 use Rattle.pieces.proofs.Ends.{room-enough}
-use Rattle.wokpieces.specs.Exports.{rowStored, FedOctets, FedTable}
+use Rattle.wokpieces.specs.Exports.{rowStored, Holds, FedOctets, FedTable}
 use Rattle.wokpieces.proofs.Twos.{numbers-append, numbers-take, numbers-drop, numbers-put, zeros-read}
 
 -- ---- a row
@@ -60,7 +62,7 @@ module _ (rows : List ℕ) (n a b c d e f : ℕ) (l : 12 * n + 12 ≤ length row
       ∙ ap (λ (t : List ℕ). set t (6 * n + 2) c) (put-at x1 (12 * n + 2) (6 * n + 1) b (omega arith) (simp length-set (omega arith))
       ∙ ap (λ (t : List ℕ). set t (6 * n + 1) b) (put-at rows (12 * n) (6 * n) a (omega arith) (omega arith))))))
 
-pub row-stored : (wrote : Bool) (rows : List ℕ) (n : ℕ) (row : List ℕ) → numbersIn (rowStored wrote rows n row) ≡ rowIf wrote (numbersIn rows) n row
+pub row-stored : (wrote : Bool) (rows : List ℕ) (n : ℕ) (row : List ℕ) → numbersIn (rowStored wrote rows n row) ≡ cond wrote (rowPut (numbersIn rows) n row) (numbersIn rows)
 unfolding rowStored putNumbers
 row-stored false rows n row = refl
 row-stored true rows n row = go (leb (12 * n + 12) (length rows)) refl
@@ -70,7 +72,7 @@ row-stored true rows n row = go (leb (12 * n + 12) (length rows)) refl
 
     go : (c : Bool) → leb (12 * n + 12) (length rows) ≡ c
         → numbersIn (cond c (put2 (put2 (put2 (put2 (put2 (put2 rows (12 * n) (getD row 0 0)) (12 * n + 2) (getD row 1 0)) (12 * n + 4) (getD row 2 0)) (12 * n + 6) (getD row 3 0)) (12 * n + 8) (getD row 4 0)) (12 * n + 10) (getD row 5 0)) rows)
-        ≡ rowIf true (numbersIn rows) n row
+        ≡ rowPut (numbersIn rows) n row
     go true u =
         let l : 12 * n + 12 ≤ length rows = leb-true _ _ u in
         rw (le-leb (6 * n + 6) (length (numbersIn rows)) (omega (arith, half))) (six-read rows n (getD row 0 0) (getD row 1 0) (getD row 2 0) (getD row 3 0) (getD row 4 0) (getD row 5 0) l)
@@ -103,6 +105,80 @@ module _ (wrote : Bool) (rows : List ℕ) (n : ℕ) (row : List ℕ) where
     unfolding rowStored
     row-there l e1 e2 e3 e4 e5 e6 =
         e6 ∙ rw (e5, e4, e3, e2, e1) (sym (cond-yes wrote _ rows (not-not wrote refl is) ∙ cond-yes (leb (12 * n + 12) (length rows)) _ rows (le-leb _ _ l)))
+
+-- ---- rows that go back
+
+pub holds-same : (rows : List ℕ) {numbers : List ℕ} → numbersIn rows ≡ numbers → Holds rows rows numbers
+holds-same rows e = record { numbers-left = e; long = refl }
+
+-- j rows are left to be looked at
+pub record Blanking (m e : ℕ) (rows₀ rows : List ℕ) (j : ℕ) : Type 0 where
+  pub most : j ≤ 4097
+  pub goes : blanks (numbersIn rows) m (j - m) ≡ blanks (numbersIn rows₀) m (e - m)
+  pub long : length rows ≡ length rows₀
+
+pub blank-begins : (m e : ℕ) (rows : List ℕ) → e ≤ 4097 → Blanking m e rows rows e
+blank-begins m e rows l = record { most = l; goes = refl; long = refl }
+
+module _ {m e : ℕ} {rows₀ rows : List ℕ} {j : ℕ} (b : Blanking m e rows₀ rows j) where
+  pub blank-turns : m < j → {rows′ none : List ℕ} → none ≡ replicate 6 0 → rows′ ≡ rowStored true rows (j - 1) none → Blanking m e rows₀ rows′ (j - 1)
+  unfolding blanks
+  blank-turns l {rows′} {none} z u =
+      let s : j - m ≡ suc (j - 1 - m) = omega arith in
+      let p : m + (j - 1 - m) ≡ j - 1 = omega arith in
+      let n : numbersIn rows′ ≡ putNumbers (numbersIn rows) (j - 1) 0 0 0 0 0 0 = ap numbersIn u ∙ row-stored true rows (j - 1) none ∙ rw z in
+      let g : blanks (putNumbers (numbersIn rows) (m + (j - 1 - m)) 0 0 0 0 0 0) m (j - 1 - m) ≡ blanks (numbersIn rows₀) m (e - m) = rw s at (b .goes) in
+      record {
+        most = omega (arith, b .most);
+        goes = rw n (ap (λ (q : ℕ). blanks (putNumbers (numbersIn rows) q 0 0 0 0 0 0) m (j - 1 - m)) (sym p) ∙ g);
+        long = ap length u ∙ stored-length true rows (j - 1) none ∙ b .long;
+      }
+
+  pub blank-ends : j ≤ m → Holds rows₀ rows (blanks (numbersIn rows₀) m (e - m))
+  unfolding blanks
+  blank-ends l = let z : j - m ≡ 0 = omega arith in record { numbers-left = rw z at (b .goes); long = b .long }
+
+module _ (rows : List ℕ) (m : ℕ) where
+  pub stand-none : m ≡ 0 → Holds rows rows (standVoid (numbersIn rows) m)
+  unfolding standVoid
+  stand-none e = holds-same rows (rw (eq-eqb m 0 e))
+
+  module _ (some : m ≡ 0 → ⊥) where
+    pub stand-out : length rows < 12 * m - 2 + 2 → Holds rows rows (standVoid (numbersIn rows) m)
+    unfolding standVoid
+    stand-out l =
+        let p = pos-of-ne-zero some in
+        holds-same rows (rw (ne-eqb m 0 some) (sym (set-out (numbersIn rows) (6 * m - 1) 4 (omega (arith, numbers-length rows)))))
+
+    pub stand-there : 12 * m - 2 + 2 ≤ length rows → {rows′ : List ℕ} → rows′ ≡ put2 rows (12 * m - 2) 4 → Holds rows rows′ (standVoid (numbersIn rows) m)
+    unfolding standVoid
+    stand-there l e =
+        let p = pos-of-ne-zero some in
+        record {
+          numbers-left = rw (ne-eqb m 0 some) (ap numbersIn e ∙ put-at rows (12 * m - 2) (6 * m - 1) 4 (omega arith) (omega arith));
+          long = ap length e ∙ (simp length-set);
+        }
+
+module _ (rows : List ℕ) (m e : ℕ) where
+  pub back-none : e ≤ m → Holds rows rows (backTo m e (numbersIn rows))
+  unfolding backTo
+  back-none l = holds-same rows (rw (le-ltb m e l))
+
+  pub back-goes : m < e → {rows₁ rows₂ : List ℕ} → Holds rows rows₁ (blanks (numbersIn rows) m (e - m)) → Holds rows₁ rows₂ (standVoid (numbersIn rows₁) m) → Holds rows rows₂ (backTo m e (numbersIn rows))
+  unfolding backTo voided
+  back-goes l a b = record { numbers-left = rw (lt-ltb m e l, ← a .numbers-left) (b .numbers-left); long = b .long ∙ a .long }
+
+module _ (wrote : Bool) (rows : List ℕ) (n : ℕ) (row : List ℕ) (m : ℕ) {rows₁ : List ℕ} (e : rows₁ ≡ rowStored wrote rows n row) where
+  pub write-none : not wrote ≡ true → Holds rows rows₁ (rowIf wrote (numbersIn rows) n row m)
+  write-none w =
+      let f : wrote ≡ false = not-so wrote refl w in
+      record { numbers-left = ap numbersIn e ∙ row-stored wrote rows n row ∙ rw f; long = ap length e ∙ stored-length wrote rows n row }
+
+  pub write-row : not wrote ≡ false → {rows₂ : List ℕ} → Holds rows₁ rows₂ (backTo m (n + 1) (numbersIn rows₁)) → Holds rows rows₂ (rowIf wrote (numbersIn rows) n row m)
+  write-row w b =
+      let t : wrote ≡ true = not-not wrote refl w in
+      let p : numbersIn rows₁ ≡ rowPut (numbersIn rows) n row = ap numbersIn e ∙ row-stored wrote rows n row ∙ rw t in
+      record { numbers-left = rw (t, ← p) (b .numbers-left); long = b .long ∙ ap length e ∙ stored-length wrote rows n row }
 
 -- ---- a part
 

@@ -67,6 +67,11 @@ rowStored wrote rows n row =
     rows)
     rows
 
+-- octets that held rows hold these numbers then, and are as many
+pub record Holds (rows rows′ numbers : List ℕ) : Type 0 where
+  pub numbers-left : numbersIn rows′ ≡ numbers
+  pub long : length rows′ ≡ length rows
+
 -- octets of a part are fed to rows that are lent as octets
 pub record FedOctets (p : Pieces) (part rows : List ℕ) (r : Pieces) (rows′ : List ℕ) : Type 0 where
   pub state : r ≡ feedAllBy p part (numbersIn rows) .state

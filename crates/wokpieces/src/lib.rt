@@ -1,8 +1,12 @@
 // The pieces form, exported to C: state and table go as octets, and the code is the result. It is a library of its own, so that the judge's stays as it is.
 ghost use mathlib.Core.Path.{_≡_};
+ghost use Prim.Native.Nat.{_-_, _≤_};
 ghost use lib.ListN.{length, replicate};
+ghost use Rattle.rules.specs.Octets.{numbersIn};
+ghost use Rattle.pieces.specs.Drafts.{blanks, standVoid, backTo};
+ghost use Rattle.pieces.specs.Coded.{rowIf};
 ghost use Rattle.pieces.specs.Contracts.{FitsAll, Rowed};
-ghost use Rattle.wokpieces.specs.Exports.{rowStored, FedOctets, FedTable, Told, Takes, Ending, Finished, StartedOctets, PartedOctets, EndedOctets};
+ghost use Rattle.wokpieces.specs.Exports.{rowStored, Holds, FedOctets, FedTable, Told, Takes, Ending, Finished, StartedOctets, PartedOctets, EndedOctets};
 use pieces::Pieces;
 use pieces::pace;
 use rules::Verdict;
@@ -38,6 +42,58 @@ fn put_row(rows: &mut [u8], wrote: bool, n: usize, row: &[u16])
     octets::put(rows, at + 10, row[5]);
 }
 
+// Rows m to e, without the last, are zero again.
+fn blank(rows: &mut [u8], m: usize, e: usize)
+    requires { ⌜ e ≤ 4097 ⌝ }
+    ensures { λ _. ⌜ Holds (now (rows .entry)) (now (rows .exit)) (blanks (numbersIn (now (rows .entry))) m (e - m)) ⌝ }
+{
+    let none = [0u16; 6];
+    let mut j = e;
+    while m < j {
+        j -= 1;
+        put_row(rows, true, j, &none);
+    }
+}
+
+// Row number m, counted from 1, is that of a void group.
+fn stand_void(rows: &mut [u8], m: usize)
+    requires { ⌜ m ≤ 4097 ⌝ }
+    ensures { λ _. ⌜ Holds (now (rows .entry)) (now (rows .exit)) (standVoid (numbersIn (now (rows .entry))) m) ⌝ }
+{
+    if m == 0 {
+        return;
+    }
+    let at = 12 * m - 2;
+    if rows.len() < at + 2 {
+        return;
+    }
+    octets::put(rows, at, 4);
+}
+
+// Where e rows were made and only m there are, the others go back, and the last that stays is void.
+fn take_back(rows: &mut [u8], m: usize, e: usize)
+    requires { ⌜ e ≤ 4097 ⌝ }
+    ensures { λ _. ⌜ Holds (now (rows .entry)) (now (rows .exit)) (backTo m e (numbersIn (now (rows .entry)))) ⌝ }
+{
+    if e <= m {
+        return;
+    }
+    blank(rows, m, e);
+    stand_void(rows, m);
+}
+
+// A row, if there is one; then m rows there are.
+fn write_row(rows: &mut [u8], wrote: bool, n: usize, row: &[u16], m: usize)
+    requires { ⌜ Rowed n (now row) ⌝ }
+    ensures { λ _. ⌜ Holds (now (rows .entry)) (now (rows .exit)) (rowIf wrote (numbersIn (now (rows .entry))) n (now (row .entry)) m) ⌝ }
+{
+    put_row(rows, wrote, n, row);
+    if !wrote {
+        return;
+    }
+    take_back(rows, m, n + 1);
+}
+
 // The octets of a part.
 fn feed(p: Pieces, part: &[u8], rows: &mut [u8]) -> Pieces
     requires { ⌜ FitsAll p ⌝ }
@@ -50,7 +106,7 @@ fn feed(p: Pieces, part: &[u8], rows: &mut [u8]) -> Pieces
     while i < part.len() {
         let n = pace::rows(q);
         let s = pace::next(&numbers, q, &part[i..], &mut row);
-        put_row(rows, s.wrote, n, &row);
+        write_row(rows, s.wrote, n, &row, pace::rows(s.state));
         q = s.state;
         i += s.taken;
     }
@@ -81,7 +137,7 @@ fn told(v: Verdict, five: &mut [u8]) -> u16
 pub extern "C" fn wok_start(kind: u32, state: &mut [u8], table: &mut [u8]) -> u16
     ensures { λ r. ⌜ StartedOctets kind (now (state .entry)) (now (table .entry)) r (now (state .exit)) (now (table .exit)) ⌝ }
 {
-    if state.len() < 208 {
+    if state.len() < keeping::SIZE {
         return 17;
     }
     let room = table.len() / 2;
@@ -94,7 +150,7 @@ pub extern "C" fn wok_start(kind: u32, state: &mut [u8], table: &mut [u8]) -> u1
 fn taken(state: &[u8], room: usize) -> bool
     ensures { λ r. ⌜ Takes (now (state .entry)) room r ⌝ }
 {
-    if state.len() < 208 {
+    if state.len() < keeping::SIZE {
         return false;
     }
     pieces::sound::ready(keeping::kept(state), room)

@@ -15,6 +15,7 @@ fn pair(typ: u8, inst: u8) -> Listed {
         mandatory: false,
         many: false,
         kinds: ALL,
+        most: None,
         inside: Vec::new(),
     }
 }
@@ -33,6 +34,11 @@ impl Listed {
 
     fn on(self, kinds: Kinds) -> Self {
         Self { kinds, ..self }
+    }
+
+    fn most(self, most: usize) -> Self {
+        let most = Some(most);
+        Self { most, ..self }
     }
 
     fn inside(self, inside: Vec<Listed>) -> Self {
@@ -172,7 +178,7 @@ fn overload_with_apns() -> Vec<Listed> {
         pair(183, 0).mandatory(),
         pair(182, 0).mandatory(),
         pair(156, 0).mandatory(),
-        pair(71, 0).many(),
+        pair(71, 0).many().most(10),
     ]
 }
 

@@ -50,12 +50,13 @@ fn by_first(shift: u8, least: &[usize]) -> Least {
     }))
 }
 
-/// Kept and short values by their type; unexpected and repeated ones whole.
+/// Kept and short values by their type; unexpected and repeated ones whole; of a
+/// void group the values inside.
 fn cover(typ: usize) -> [Cover; STANDINGS] {
     let by_type = match typ {
         1 | 75 | 76 | 78 | 255 => Cover::Whole,
         79 | 86 => Cover::Rest,
         _ => Cover::Nothing,
     };
-    [by_type, Cover::Whole, Cover::Whole, by_type]
+    [by_type, Cover::Whole, Cover::Whole, by_type, Cover::Values]
 }

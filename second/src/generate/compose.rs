@@ -2,6 +2,7 @@
 //! repeats, unexpected, private and short optional elements among them.
 
 use super::draft::{Draft, Element, Run, Value};
+use super::overload::crowded;
 use super::random::Random;
 use crate::rules::{position, Inst, Listed, Message};
 use crate::DOCUMENT;
@@ -113,11 +114,22 @@ impl Composer<'_> {
         element.spare = self.spare();
         element.value = if DOCUMENT.facts(listed.typ).group {
             self.octets += 4;
-            Value::Group(self.run(&listed.inside))
+            Value::Group(self.inside(listed))
         } else {
             Value::Plain(self.value(listed))
         };
         element
+    }
+
+    /// What a group holds; one that has a limit is about that full now and then.
+    fn inside(&mut self, group: &'static Listed) -> Run {
+        let has_limit = group.limits().next().is_some();
+        if has_limit && self.roomy() && self.random.percent(25) {
+            let run = crowded(self.random, group);
+            self.octets += run.octets();
+            return run;
+        }
+        self.run(&group.inside)
     }
 
     fn spare(&mut self) -> u8 {

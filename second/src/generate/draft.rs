@@ -66,6 +66,13 @@ impl Run {
         octets.extend(&self.remnant);
     }
 
+    /// How many octets it has.
+    pub fn octets(&self) -> usize {
+        let mut octets = Vec::new();
+        self.put(&mut octets);
+        octets.len()
+    }
+
     /// The run of the first group of these pairs, one inside the other.
     pub fn at(&mut self, path: &[(u8, u8)]) -> Option<&mut Run> {
         let Some(((typ, inst), rest)) = path.split_first() else {

@@ -66,7 +66,8 @@ impl Case {
     pub fn feed_cut(&self, cut: Cut, is_enough: bool, random: &mut Random) -> Feed<'_> {
         let mut feed = Feed { calls: Vec::new() };
         let numbers = if is_enough {
-            self.table_need() + *random.pick(&[0, 0, 1, 20])
+            let (need, more) = (self.table_need(), self.table_need_with_insides());
+            *random.pick(&[need, need, need + 1, need + 20, more])
         } else {
             *random.pick(&self.table_lengths())
         };

@@ -1,8 +1,27 @@
 //! What is lent beside a message: tables and copies of all lengths.
 
+use std::sync::LazyLock;
+
 use super::random::Random;
 use super::{Case, Generator};
-use crate::{Answer, Verdict, DOCUMENT};
+use crate::rules::Listed;
+use crate::{Answer, Rules, Verdict, DOCUMENT};
+
+/// The document's rules without a limit: no group is void, and each that is
+/// otherwise kept is listed with its inside.
+pub static UNLIMITED: LazyLock<Rules> = LazyLock::new(|| {
+    fn lift(listing: &mut [Listed]) {
+        for listed in listing {
+            listed.most = None;
+            lift(&mut listed.inside);
+        }
+    }
+    let mut rules = DOCUMENT.clone();
+    for message in &mut rules.messages {
+        lift(&mut message.body);
+    }
+    rules
+});
 
 impl Case {
     /// The numbers that the judge's table needs for this case.
@@ -11,12 +30,32 @@ impl Case {
         DOCUMENT.used(rows.map_or(0, |rows| rows.len()))
     }
 
-    /// Lengths of lent tables: one and two short, exact, longer, and the tiny ones.
+    /// The same if void groups were listed with their insides.
+    pub fn table_need_with_insides(&self) -> usize {
+        let rows = UNLIMITED.rows(self.kind, &self.message);
+        UNLIMITED.used(rows.map_or(0, |rows| rows.len()))
+    }
+
+    /// Lengths of lent tables: one and two short, exact, longer, and the tiny ones;
+    /// where a group is void, also such that its inside would overrun.
     pub fn table_lengths(&self) -> Vec<usize> {
         let need = self.table_need();
+        let more = self.table_need_with_insides();
         let tiny = 0..=DOCUMENT.sizes.table_header + 1;
         let around = [need - 1, need - 2, need, need + 1, need + 20];
-        around.into_iter().chain(tiny).collect()
+        let mut lengths = around.into_iter().chain(tiny).collect::<Vec<_>>();
+        if more > need {
+            let between = [
+                need,
+                need + 3,
+                need.midpoint(more),
+                more - 6,
+                more - 1,
+                more,
+            ];
+            lengths.extend(between);
+        }
+        lengths
     }
 
     /// Lengths of lent copies: one short, exact, longer, and none.

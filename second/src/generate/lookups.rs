@@ -4,7 +4,7 @@
 use super::random::Random;
 use super::tables::{self, table_of, Row, COUNTS, FIRST, KEPT, KIND, ROWS, TYPE, USED};
 use super::{Case, Generator};
-use crate::rules::Rules;
+use crate::rules::{Rules, Standing};
 use crate::DOCUMENT;
 
 /// Which lookup is asked, and for what.
@@ -60,7 +60,10 @@ impl Generator {
     }
 
     fn whole_lookup(&mut self) -> Lookup {
-        let Case { kind, message } = self.good();
+        let Case { kind, message } = match self.random.percent(5) {
+            true => self.void(),
+            false => self.good(),
+        };
         let random = &mut self.random;
         let mut table = vec![0; DOCUMENT.used(DOCUMENT.sizes.most_rows)];
         DOCUMENT.judge(kind, &message, &mut table);
@@ -320,10 +323,12 @@ fn old_numbers(random: &mut Random, lookup: &mut Lookup) {
 fn ask(random: &mut Random, table: &[u16]) -> Ask {
     let rows = table.get(DOCUMENT.sizes.first_row..).unwrap_or_default();
     let rows = rows.chunks_exact(DOCUMENT.sizes.row).collect::<Vec<_>>();
+    let void = rows.iter().position(|row| row[5] == Standing::Void as u16);
     if random.percent(50) {
-        let row = match random.below(20) {
-            0 => usize::MAX,
-            1 => usize::from(u16::MAX),
+        let row = match (random.below(20), void) {
+            (0, _) => usize::MAX,
+            (1, _) => usize::from(u16::MAX),
+            (2..=9, Some(void)) => void,
             _ => random.between(0, rows.len()),
         };
         let right = random.percent(50);
@@ -334,7 +339,10 @@ fn ask(random: &mut Random, table: &[u16]) -> Ask {
         let inst = random.below(20) as u16;
         return Ask::Plain { typ, inst };
     }
-    let row = random.pick(&rows);
+    let row = match void {
+        Some(void) if random.percent(30) => rows[void],
+        _ => random.pick(&rows),
+    };
     Ask::Plain {
         typ: row[1],
         inst: row[2],

@@ -11,6 +11,7 @@ mod figures;
 mod lend;
 mod limits;
 mod lookups;
+mod overload;
 mod parts;
 mod random;
 mod tables;
@@ -18,7 +19,7 @@ mod tables;
 pub use builds::{builds, Build, Rooms};
 pub use feeds::{Call, Feed, Left, What};
 pub use figures::figures;
-pub use lend::{Buffers, ANSWERS};
+pub use lend::{Buffers, ANSWERS, UNLIMITED};
 pub use lookups::{hostile_tables, Ask, Lookup};
 pub use parts::{parts, Cut, CUTS};
 pub use random::Random;
@@ -54,11 +55,13 @@ impl Generator {
         }
     }
 
-    /// The ordinary mix: good and damaged messages, and some at the limits.
+    /// The ordinary mix: good and damaged messages, some at the limits, and some
+    /// with groups that are too full or nearly.
     pub fn case(&mut self) -> Case {
         match self.random.below(1000) {
             0..=2 => self.at_limit(),
-            3..=599 => self.good(),
+            3..=32 => self.overload(),
+            33..=619 => self.good(),
             _ => self.damaged(),
         }
     }
@@ -74,6 +77,25 @@ impl Generator {
     pub fn damaged(&mut self) -> Case {
         let (kind, draft) = self.draft();
         damage::damage(&mut self.random, kind, draft)
+    }
+
+    /// A message with groups that hold about as many elements as they may, good
+    /// or with a fault.
+    pub fn overload(&mut self) -> Case {
+        overload::overload(&mut self.random)
+    }
+
+    /// One of these that is accepted and has a group that is void.
+    pub fn void(&mut self) -> Case {
+        loop {
+            let case = self.overload();
+            let is_void = case.table_need() != case.table_need_with_insides();
+            let mut table = vec![0; case.table_need()];
+            let verdict = DOCUMENT.judge(case.kind, &case.message, &mut table);
+            if is_void && verdict.accepted() {
+                return case;
+            }
+        }
     }
 
     /// A message at the limit of octets or of elements.

@@ -2,11 +2,16 @@
 //!
 //! In hand are the header of one element, what its value still has to come, and
 //! the levels that are open. A row is known when its element's header is whole,
-//! or with the first octet of its value where the least length hangs on that.
+//! or with the first octet of its value where the least length hangs on that. Only
+//! whether a group is void shows at its end; then all that was met inside is taken
+//! back.
+
+use std::ops::Range;
 
 use super::Room;
 use crate::framing::ELEMENT_HEADER;
 use crate::rules::{position, Least, Listed, Rules, Standing};
+use crate::table::COLUMNS;
 
 /// Where a refusal lies, and the pair that it names.
 #[derive(Debug, Clone, Copy)]
@@ -41,6 +46,30 @@ struct Open<'r> {
     /// Positions of the listing that came, and of those that were kept, a bit each.
     came: u32,
     kept: u32,
+    /// How many elements came of each line.
+    counts: Vec<usize>,
+    /// The group, unless this is the body.
+    group: Option<Group>,
+}
+
+/// A group that is entered, with what was known before its row was.
+#[derive(Debug, Clone)]
+struct Group {
+    row: [u16; COLUMNS],
+    /// The bit of its line at the level around it.
+    bit: u32,
+    rows: usize,
+    kept: usize,
+    short: Option<Named>,
+    missing: Option<Named>,
+}
+
+impl Open<'_> {
+    /// Did more elements of some line come than a group may hold?
+    fn is_too_full(&self) -> bool {
+        let mut lines = self.listing.iter().zip(&self.counts);
+        lines.any(|(listed, &count)| listed.most.is_some_and(|most| count > most))
+    }
 }
 
 /// What was met so far.
@@ -63,8 +92,14 @@ pub struct Taking<'r> {
 }
 
 impl<'r> Taking<'r> {
-    /// A body of this listing from `at` to `end`, by the message's own word.
-    pub fn new(rules: &'r Rules, kind: u32, listing: &'r [Listed], at: usize, end: usize) -> Self {
+    /// A body of this listing that lies there by the message's own word.
+    pub fn new(
+        rules: &'r Rules,
+        kind: u32,
+        listing: &'r [Listed],
+        lies: Range<usize>,
+        table: &mut (impl Room + ?Sized),
+    ) -> Self {
         let mut taking = Self {
             rules,
             kind,
@@ -78,9 +113,9 @@ impl<'r> Taking<'r> {
             missing: None,
         };
         // A length below the header's own is refused at the end.
-        if at <= end {
-            taking.enter(listing, end, 0, 0);
-            taking.go_on(at);
+        if lies.start <= lies.end {
+            taking.enter(listing, lies.end, 0, None);
+            taking.go_on(lies.start, table);
         }
         taking
     }
@@ -97,24 +132,27 @@ impl<'r> Taking<'r> {
                 }
             }
             Next::First => self.stand(at, Some(octet), table),
-            Next::Value(end) if after == end => self.go_on(after),
+            Next::Value(end) if after == end => self.go_on(after, table),
             Next::Value(_) | Next::Nothing => {}
         }
     }
 
-    fn enter(&mut self, listing: &'r [Listed], end: usize, place: u16, number: u16) {
+    /// Opens the body, or the group whose row was the last.
+    fn enter(&mut self, listing: &'r [Listed], end: usize, place: u16, group: Option<Group>) {
         self.open.push(Open {
             listing,
             end,
             place,
-            number,
+            number: self.rows as u16,
             came: 0,
             kept: 0,
+            counts: vec![0; listing.len()],
+            group,
         });
     }
 
     /// An element may begin here; levels that end here are over.
-    fn go_on(&mut self, at: usize) {
+    fn go_on(&mut self, at: usize, table: &mut (impl Room + ?Sized)) {
         self.next = Next::Nothing;
         while let Some(level) = self.open.last() {
             let left = level.end - at;
@@ -126,15 +164,24 @@ impl<'r> Taking<'r> {
                 self.next = Next::Header(0);
                 return;
             }
-            self.leave();
+            self.leave(table);
         }
     }
 
     /// The innermost level is over.
-    fn leave(&mut self) {
+    fn leave(&mut self, table: &mut (impl Room + ?Sized)) {
         let Some(level) = self.open.pop() else {
             return;
         };
+        match &level.group {
+            Some(group) if level.is_too_full() => return self.make_void(group, table),
+            Some(group) => {
+                if let Some(around) = self.open.last_mut() {
+                    around.kept |= group.bit;
+                }
+            }
+            None => {}
+        }
         let mut lines = level.listing.iter().enumerate();
         let lacking = lines.find(|(position, listed)| {
             listed.mandatory && listed.kinds.has(self.kind) && level.kept >> position & 1 == 0
@@ -148,6 +195,19 @@ impl<'r> Taking<'r> {
                 inst: listed.inst.number(),
             });
         }
+    }
+
+    /// Takes back the group that is just over and all that was met inside, and
+    /// puts its row down as that of a void one.
+    fn make_void(&mut self, group: &Group, table: &mut (impl Room + ?Sized)) {
+        let from = self.rules.place_of(group.rows);
+        let to = self.rules.place_of(self.rows);
+        table.lay(from, &vec![0; to - from]);
+        (self.rows, self.kept) = (group.rows, group.kept);
+        (self.short, self.missing) = (group.short, group.missing);
+        let [parent, typ, inst, place, length, _] = group.row;
+        let void = Standing::Void as u16;
+        self.put_row([parent, typ, inst, place, length, void], table);
     }
 
     fn typ(&self) -> u8 {
@@ -193,45 +253,59 @@ impl<'r> Taking<'r> {
         let is_repeat = level.came & bit != 0 && listed.is_some_and(|listed| !listed.many);
         let is_short = length < self.rules.facts(typ).least(first.as_slice());
         level.came |= bit;
+        if let Some(line) = line {
+            level.counts[line] += 1;
+        }
         let standing = match listed {
             None => Standing::Unexpected,
             Some(_) if is_repeat => Standing::Repeated,
             Some(_) if is_short => Standing::Short,
             Some(_) => Standing::Kept,
         };
-        if standing == Standing::Kept {
+        let is_entered = standing == Standing::Kept && self.rules.facts(typ).group;
+        // Whether a group is kept shows at its end.
+        if standing == Standing::Kept && !is_entered {
             level.kept |= bit;
         }
         if standing == Standing::Short && listed.is_some_and(|listed| listed.mandatory) {
             let place = begun;
             self.short.get_or_insert(Named { place, typ, inst });
         }
-        let numbers = [place as u16, length as u16, standing as u16];
-        self.put_row(parent, numbers, table);
+        let row = [
+            parent,
+            typ.into(),
+            inst.into(),
+            place as u16,
+            length as u16,
+            standing as u16,
+        ];
+        let group = Group {
+            row,
+            bit,
+            rows: self.rows,
+            kept: self.kept,
+            short: self.short,
+            missing: self.missing,
+        };
+        self.put_row(row, table);
         let end = place + length;
         let after = place + first.iter().len();
         match listed {
-            Some(listed) if standing == Standing::Kept && self.rules.facts(typ).group => {
-                self.enter(&listed.inside, end, begun, self.rows as u16);
-                self.go_on(after);
+            Some(listed) if is_entered => {
+                self.enter(&listed.inside, end, begun, Some(group));
+                self.go_on(after, table);
             }
-            _ if after == end => self.go_on(end),
+            _ if after == end => self.go_on(end, table),
             _ => self.next = Next::Value(end),
         }
     }
 
     /// Counts a row, and writes as much of it as the table has room for: one that
     /// is too short is made zero at the end.
-    fn put_row(
-        &mut self,
-        parent: u16,
-        [place, length, standing]: [u16; 3],
-        table: &mut (impl Room + ?Sized),
-    ) {
-        let (typ, inst) = (self.typ().into(), self.inst().into());
-        let row = [parent, typ, inst, place, length, standing];
+    fn put_row(&mut self, row: [u16; COLUMNS], table: &mut (impl Room + ?Sized)) {
         table.lay(self.rules.place_of(self.rows), &row);
         self.rows += 1;
+        let [.., standing] = row;
         self.kept += usize::from(standing == self.rules.table.kept);
     }
 }

@@ -784,6 +784,7 @@ fn every_reason_is_met() {
         "standing 1",
         "standing 2",
         "standing 3",
+        "standing 4",
     ] {
         wanted.push(format!("16 for {why}"));
     }

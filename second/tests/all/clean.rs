@@ -205,6 +205,18 @@ fn promises_over_the_mix() {
 }
 
 #[test]
+fn promises_over_overloads() {
+    let (mut generator, mut random) = (Generator::new(73), Random::new(74));
+    let mut shorter = 0;
+    for _ in 0..CASES / 4 {
+        let case = generator.overload();
+        let length = *random.pick(&case.clean_lengths());
+        shorter += usize::from(assert_clean(&case, length));
+    }
+    assert!(shorter > CASES / 20, "{shorter}");
+}
+
+#[test]
 fn promises_over_the_figures() {
     let mut shorter = 0;
     for (turn, case) in figures().iter().enumerate() {

@@ -198,6 +198,8 @@ fn assert_set_aside(cases: impl Iterator<Item = Case>, least: usize) {
     for group in ["a 93", "a 180"] {
         met.insert(format!("Unexpected: {group} itself"), 0);
     }
+    met.insert("Void in the message".into(), 0);
+    met.insert("Void: a 180 itself".into(), 0);
     met.insert("at both levels".into(), 0);
     for case in cases {
         if !judged(case.kind, &case.message).0.accepted() {
@@ -259,6 +261,9 @@ fn expect_line(counts: &mut Counts, lines: &[Line], line: &Line) {
             continue;
         }
         counts.expect(format!("{line}: kept on {kind}"));
+        if line.listed.limits().next().is_some() {
+            counts.expect(format!("{line}: void on {kind}"));
+        }
         if can_be_short {
             counts.expect(format!("{line}: short on {kind}"));
         }
@@ -300,6 +305,7 @@ fn count_row(counts: &mut Counts, lines: &[Line], case: &Case, rows: &[Row], row
         Standing::Kept => "kept",
         Standing::Unexpected => "not listed",
         Standing::Short => "short",
+        Standing::Void => "void",
         Standing::Repeated => match first_of(rows, row).standing {
             Standing::Kept => "repeated after kept",
             _ => "repeated after short",
@@ -443,6 +449,16 @@ fn edges(lookup: &Lookup) -> Vec<&'static str> {
         length if length == 6 + 6 * rows => edges.push("table exact"),
         _ => {}
     }
+    if let Ask::Plain { typ, inst } = lookup.ask {
+        let rows = table.get(6..).unwrap_or_default().chunks_exact(6);
+        let mut rows = rows.filter(|row| row[..3] == [0, typ, inst]);
+        if rows.next().is_some_and(|row| row[5] == 4) {
+            edges.push(match lookup.answer(&DOCUMENT) {
+                Some(_) => "pair of a void row before the kept one",
+                None => "pair of a void row alone",
+            });
+        }
+    }
     if let Ask::Desk { row, .. } = lookup.ask {
         edges.extend((row == rows).then_some("row past the last"));
         edges.extend((row + 1 == rows).then_some("last row"));
@@ -455,6 +471,8 @@ fn edges(lookup: &Lookup) -> Vec<&'static str> {
             .get(6 + 6 * row.min(rows)..)
             .and_then(<[_]>::first_chunk::<6>)
         {
+            let is_void = row < rows && table[6 + 6 * row + 5] == 4;
+            edges.extend((is_void && lookup.answer(&DOCUMENT).is_some()).then_some("void row"));
             match (usize::from(place) + usize::from(length)) as isize - message.len() as isize {
                 0 if length == 0 => edges.push("empty part at the end"),
                 0 => edges.push("part up to the end"),
@@ -483,6 +501,9 @@ fn lookups_at_every_edge() {
         "part up to the end",
         "empty part past the end",
         "part one past the end",
+        "void row",
+        "pair of a void row before the kept one",
+        "pair of a void row alone",
     ] {
         counts.expect(edge);
     }

@@ -34,7 +34,9 @@ fn assert_rows_tile_their_levels(message: &[u8], rows: &[[u16; 6]]) {
 #[test]
 fn rows_lie_within_their_parents_and_siblings_never_overlap() {
     let mut accepted = 0;
-    for case in Generator::new(11).take(CASES) {
+    let mut generator = Generator::new(17);
+    let overloads = (0..CASES / 4).map(|_| generator.overload());
+    for case in Generator::new(11).take(CASES).chain(overloads) {
         let (verdict, table) = judged(case.kind, &case.message);
         if verdict.accepted() {
             accepted += 1;
@@ -84,7 +86,9 @@ fn missing_by_hand(lines: &[Line], case: &Case) -> Option<Verdict> {
 fn missing_is_given_exactly_when_a_required_pair_has_no_kept_row() {
     let lines = DOCUMENT.lines();
     let mut missing = 0;
-    for case in Generator::new(12).take(CASES) {
+    let mut generator = Generator::new(18);
+    let overloads = (0..CASES / 4).map(|_| generator.overload());
+    for case in Generator::new(12).take(CASES).chain(overloads) {
         let (verdict, _) = judged(case.kind, &case.message);
         if verdict.code == 0 || verdict.code == 12 {
             let expected = missing_by_hand(&lines, &case);
@@ -126,8 +130,11 @@ fn covered_octets_change_nothing() {
     let mut generator = Generator::new(13);
     let mut random = Random::new(14);
     let mut pairs = 0;
-    for _ in 0..CASES {
-        let case = generator.case();
+    for turn in 0..CASES {
+        let case = match turn % 4 {
+            0 => generator.overload(),
+            _ => generator.case(),
+        };
         let covered = DOCUMENT.covered(case.kind, &case.message);
         let other = Case {
             kind: case.kind,

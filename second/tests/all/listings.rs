@@ -34,7 +34,7 @@ const SENTENCES: &[(&[u8], &str, &str)] = &[
         "2/0 M, 93/0 M*, 3/0, 77/0, 180/0*, 180/1 (kinds 1 and 2 only)",
     ),
     (&[67], "93/0", "73/0 M, 2/0 M"),
-    (&[67], "180/0", "183/0 M, 182/0 M, 156/0 M, 71/0*"),
+    (&[67], "180/0", "183/0 M, 182/0 M, 156/0 M, 71/0* most 10"),
     (&[67], "180/1", "183/0 M, 182/0 M, 156/0 M"),
     (&[68], "body", "73/0, 2/0, 100/0 M, 81/0, 85/0 M"),
     (&[69], "body", "2/0 M, 73/0, 73/1, 100/0 M, 3/0"),
@@ -48,12 +48,14 @@ const SENTENCES: &[(&[u8], &str, &str)] = &[
 
 /// One pair of a sentence in canonical form, without message and level.
 fn canonical(pair: &str) -> String {
+    let (pair, most) = pair.split_at(pair.find(" most ").unwrap_or(pair.len()));
     let (pair, kinds) = pair.split_once(" (").unwrap_or((pair, "kinds 1, 2 and 3"));
     let kinds = kinds.chars().filter(char::is_ascii_digit);
     let mandatory = if pair.contains('M') { 'M' } else { '-' };
     let many = if pair.contains('*') { '*' } else { '-' };
     let pair = pair.trim_end_matches(['M', '*', ' ']);
-    format!("{pair} {mandatory} {many} {}", kinds.collect::<String>())
+    let kinds = kinds.collect::<String>();
+    format!("{pair} {mandatory} {many} {kinds}{most}")
 }
 
 fn sentences_of(message: u8) -> Vec<String> {
@@ -93,6 +95,15 @@ fn only_groups_list_something_inside() {
         let group = DOCUMENT.facts(line.listed.typ).group;
         assert_eq!(group, !line.listed.inside.is_empty(), "{line}");
     }
+}
+
+/// Ten APNs in a report of 67, and no other limit.
+#[test]
+fn one_line_has_a_limit() {
+    let lines = DOCUMENT.lines().into_iter();
+    let limits = lines.filter(|line| line.listed.most.is_some());
+    let limits = limits.map(|line| line.to_string()).collect::<Vec<_>>();
+    assert_eq!(limits, ["67 180/0 71/0 - * 123 most 10"]);
 }
 
 /// A level has one bit for each position of its listing.
@@ -148,7 +159,7 @@ fn types_are_those_of_the_document() {
             _ => Cover::Nothing,
         };
         assert_eq!(facts.group, typ == 93 || typ == 180, "{typ}");
-        let by_standing = [cover, Cover::Whole, Cover::Whole, cover];
+        let by_standing = [cover, Cover::Whole, Cover::Whole, cover, Cover::Values];
         assert_eq!(facts.cover, by_standing, "{typ}");
     }
 }

@@ -70,8 +70,8 @@ fn plain_takes_the_first_kept_row() {
     );
     let table = table(1, &message);
     assert_eq!(plain(1, 255, 0, &message, &table), [2, 3]);
-    // The rows of standing 1 to 3 are not looked up.
-    for standing in 1..=3 {
+    // The rows of standing 1 to 4 are not looked up.
+    for standing in 1..=4 {
         let table = [1, 0, 6, 12, 2, 1, 0, 3, 0, 12, 1, standing];
         assert!(!plain_found(1, 3, 0, &message, &table));
         assert!(desk_found(1, 0, true, &message, &message, &table));

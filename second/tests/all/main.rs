@@ -16,3 +16,4 @@ mod program;
 mod readings;
 mod samples;
 mod support;
+mod void;

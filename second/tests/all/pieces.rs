@@ -3,9 +3,9 @@
 
 use crate::support::{octets, table, verdict};
 use second::generate::{
-    figures, parts, Call, Case, Cut, Feed, Generator, Left, Random, What, CUTS,
+    figures, parts, Call, Case, Cut, Feed, Generator, Left, Random, What, CUTS, UNLIMITED,
 };
-use second::rules::{Check, Least};
+use second::rules::{Check, Least, Standing};
 use second::{judge, judge_octets, start, start_octets, State, Verdict, DOCUMENT};
 
 const CASES: usize = 12_000;
@@ -245,11 +245,22 @@ enum Wrong {
     TakenAfterEnd,
     EndTwice,
     NotFresh,
+    /// What stood inside a void group is not made zero.
+    InsideLeft,
+    /// A table that the inside overran is too short.
+    InsideOverran,
+    /// Rows inside a void group stay counted as kept.
+    InsideKept,
+    /// What is short or missing inside a void group is told.
+    InsideShort,
+    InsideMissing,
+    /// A void group takes back what was short or missing before it.
+    BeforeForgotten,
 }
 
 use Wrong::*;
 
-const ALL: [Wrong; 19] = [
+const ALL: [Wrong; 25] = [
     LastOctetOfAPartLost,
     OneOctetLost,
     EmptyPartEnds,
@@ -269,6 +280,12 @@ const ALL: [Wrong; 19] = [
     TakenAfterEnd,
     EndTwice,
     NotFresh,
+    InsideLeft,
+    InsideOverran,
+    InsideKept,
+    InsideShort,
+    InsideMissing,
+    BeforeForgotten,
 ];
 
 /// The form that keeps all octets and has them judged at the end.
@@ -388,6 +405,7 @@ impl Stored {
                 found = DOCUMENT.refusal(Check::TableRoom);
             }
         }
+        self.spoil_void(&message, &mut found, &mut fresh);
         let leaves = self.is(TableLeftOnRefusal) && matches!(found.code, 9..=12);
         if leaves && table.len() >= 14 {
             fresh[13] = 1;
@@ -399,6 +417,43 @@ impl Stored {
             table.copy_from_slice(&fresh);
         }
         found
+    }
+
+    /// What a form gets wrong that does not take everything back, or too much.
+    fn spoil_void(&self, message: &[u8], found: &mut Verdict, table: &mut [u8]) {
+        let room = table.len() / 2;
+        let mut listed = vec![0; UNLIMITED.used(1022)];
+        let unlimited = UNLIMITED.judge(self.kind, message, &mut listed);
+        let rows = DOCUMENT.rows(self.kind, message).unwrap_or_default();
+        let all = UNLIMITED.rows(self.kind, message).unwrap_or_default();
+        if rows.len() == all.len() {
+            return;
+        }
+        let overran = room < UNLIMITED.used(all.len());
+        match self.wrong {
+            InsideOverran if overran => *found = DOCUMENT.refusal(Check::TableRoom),
+            InsideShort if unlimited.code == 11 && found.code != 10 => *found = unlimited,
+            InsideMissing if unlimited.code == 12 && found.accepted() => *found = unlimited,
+            InsideLeft if found.accepted() && room > DOCUMENT.used(rows.len()) => {
+                let at = 2 * DOCUMENT.used(rows.len()) + 1;
+                table[at] = 1;
+            }
+            InsideKept if found.accepted() => {
+                let kept = all.iter().filter(|row| row.standing == Standing::Kept);
+                table[2..4].copy_from_slice(&(kept.count() as u16).to_be_bytes());
+            }
+            BeforeForgotten => {
+                let void = rows.iter().rfind(|row| row.standing == Standing::Void);
+                let is_before = void.is_some_and(|void| found.place < void.place);
+                if matches!(found.code, 11 | 12) && found.place > 0 && is_before {
+                    *found = Verdict::ACCEPTED;
+                }
+            }
+            _ => {}
+        }
+        if !found.accepted() {
+            table.fill(0);
+        }
     }
 
     /// The message as this form reads it.
@@ -504,7 +559,7 @@ fn wrong_forms_are_seen() {
 /// What the feeds of the gate's messages meet.
 #[test]
 fn feeds_meet_every_place() {
-    const NAMES: [&str; 14] = [
+    const NAMES: [&str; 18] = [
         "a part begins at an element",
         "one octet into a header",
         "two octets into it",
@@ -519,6 +574,10 @@ fn feeds_meet_every_place() {
         "an empty part last",
         "two empty parts",
         "no part",
+        "a part begins in a void group",
+        "between two elements of it",
+        "within the header of one of them",
+        "at its end",
     ];
     let mut met = [0; NAMES.len()];
     for (seed, case) in figures().iter().enumerate() {
@@ -554,9 +613,81 @@ fn feeds_meet_every_place() {
             note(6, bears && begin[place + 1]);
             note(7, facts.group && begin[place + usize::from(row.length)]);
         }
+        for (place, end) in void_groups(case) {
+            note(14, begin[place + 1..end].contains(&true));
+            note(17, begin[end]);
+            let mut at = place;
+            while at < end {
+                note(15, at > place && begin[at]);
+                note(16, begin[at + 1..at + 4].contains(&true));
+                at += 4 + usize::from(u16::from_be_bytes([
+                    case.message[at + 1],
+                    case.message[at + 2],
+                ]));
+            }
+        }
     }
     let named = NAMES.iter().zip(met).collect::<Vec<_>>();
     assert!(met.iter().all(|&met| met >= 20), "{named:?}");
+}
+
+/// Where the values of void groups begin and end.
+fn void_groups(case: &Case) -> Vec<(usize, usize)> {
+    let rows = DOCUMENT.rows(case.kind, &case.message).unwrap_or_default();
+    let void = rows.iter().filter(|row| row.standing == Standing::Void);
+    let place = |row: &second::walk::Row| usize::from(row.place);
+    void.map(|row| (place(row), place(row) + usize::from(row.length)))
+        .collect()
+}
+
+/// Tables that are long enough though the inside of a void group overruns them,
+/// tables that are not, and such that hold the inside too.
+#[test]
+fn feeds_lend_tables_around_void_groups() {
+    let mut met = [0; 4];
+    for (seed, case) in figures().iter().enumerate() {
+        if void_groups(case).is_empty() {
+            continue;
+        }
+        let (need, more) = (case.table_need(), case.table_need_with_insides());
+        let feed = case.feed(seed as u64);
+        let mut kind = None;
+        for (call, left) in feed.calls.iter().zip(feed.left_by(&DOCUMENT)) {
+            match call.what {
+                What::Start(told) if left.code == 0 => kind = Some(told),
+                _ => {}
+            }
+            if call.what != What::End || left.code == 17 || kind != Some(case.kind) {
+                continue;
+            }
+            let numbers = call.table / 2;
+            let way = match numbers {
+                _ if numbers < need => 0,
+                _ if numbers == need => 1,
+                _ if numbers < more => 2,
+                _ => 3,
+            };
+            assert_eq!(left.code == 10, way == 0, "{call:?}");
+            met[way] += 1;
+        }
+    }
+    assert!(met.iter().all(|&met| met >= 100), "{met:?}");
+}
+
+#[test]
+fn feeds_of_overloads() {
+    let mut generator = Generator::new(86);
+    for seed in 0..CASES as u64 {
+        assert_fed(&generator.overload(), seed);
+    }
+}
+
+#[test]
+fn overloads_in_every_cut() {
+    let mut generator = Generator::new(87);
+    for seed in 0..CASES as u64 / 8 {
+        assert_as_joined(&generator.overload(), seed);
+    }
 }
 
 #[test]

@@ -193,19 +193,20 @@ fn listings_and_types_commands() {
     assert!(listings.starts_with(echo));
     assert!(listings.contains("\n97 T 1\n"));
     assert!(listings.contains("\n66 body 180/1 - - 3\n"));
-    assert!(listings.contains("\n67 180/0 71/0 - * 123\n"));
+    assert!(listings.contains("\n67 180/0 71/0 - * 123 most 10\n"));
     let types = printed(second(&["types"], &[]));
     assert_eq!(types.lines().count(), 256);
     for line in [
-        "0 1 - - whole whole -",
-        "1 1 - whole whole whole whole",
-        "79 [1,5,18,22,1,1,1,1] - rest whole whole rest",
+        "0 1 - - whole whole - values",
+        "1 1 - whole whole whole whole values",
+        "79 [1,5,18,22,1,1,1,1] - rest whole whole rest values",
         "86 [1,8,8,15,8,15,15,22,6,13,13,20,13,20,20,27,8,15,15,22,15,22,22,29,13,20,20,27,20,27,27,34,\
          6,13,13,20,13,20,20,27,11,18,18,25,18,25,25,32,13,20,20,27,20,27,27,34,18,25,25,32,25,32,32,39] \
-         - rest whole whole rest",
-        "87 [5,21,9,25] - - whole whole -",
-        "93 0 group - whole whole -",
-        "255 2 - whole whole whole whole",
+         - rest whole whole rest values",
+        "87 [5,21,9,25] - - whole whole - values",
+        "93 0 group - whole whole - values",
+        "180 0 group - whole whole - values",
+        "255 2 - whole whole whole whole values",
     ] {
         assert!(types.lines().any(|other| other == line), "{line}");
     }

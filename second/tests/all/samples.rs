@@ -1,11 +1,11 @@
-//! The samples against their verdicts and cleaned copies worked out by hand.
+//! The samples against their verdicts, tables and copies worked out by hand.
 
 use std::collections::BTreeSet;
 use std::fs;
 use std::path::PathBuf;
 
 use crate::support::{octets, rows, table, verdict};
-use second::{clean, judge, mask, Verdict};
+use second::{clean, judge, mask, Verdict, DOCUMENT};
 
 fn folder() -> PathBuf {
     PathBuf::from(env!("CARGO_MANIFEST_DIR")).join("../samples")
@@ -82,9 +82,11 @@ fn every_sample_has_one_line_and_every_line_a_sample() {
 
 #[test]
 fn samples_are_pairs_of_hex_digits_sixteen_a_line() {
-    let cleaned = names_in(folder().join("cleaned"));
-    let cleaned = cleaned.iter().map(|name| format!("cleaned/{name}"));
-    for name in names_in(folder()).into_iter().chain(cleaned) {
+    let copies = ["cleaned", "masked"].into_iter().flat_map(|copies| {
+        let names = names_in(folder().join(copies)).into_iter();
+        names.map(move |name| format!("{copies}/{name}"))
+    });
+    for name in names_in(folder()).into_iter().chain(copies) {
         let octets = sample(&name);
         let lines = octets.chunks(16).map(|octets| {
             let pairs = octets.iter().map(|octet| format!("{octet:02X}"));
@@ -111,6 +113,35 @@ fn cleaned_copies_are_as_expected() {
         }
     }
     assert_eq!(met, differ);
+}
+
+/// Those that stand beside a sample.
+#[test]
+fn masked_copies_are_as_expected() {
+    let names = names_in(folder().join("masked"));
+    assert!(!names.is_empty());
+    for name in names {
+        let message = sample(&name);
+        let mut copy = vec![0xEE; message.len()];
+        let verdict = mask(kind_of(&name), &message, &mut copy);
+        assert_eq!(verdict, Verdict::ACCEPTED, "{name}");
+        assert_eq!(copy, sample(&format!("masked/{name}")), "{name}");
+    }
+}
+
+/// The judge program's lines that stand beside a sample.
+#[test]
+fn tables_are_as_expected() {
+    let mut count = 0;
+    for entry in fs::read_dir(folder().join("tables")).expect("tables") {
+        let path = entry.expect("an entry").path();
+        let name = path.file_stem().expect("a name").to_string_lossy();
+        let input = [&[kind_of(&name) as u8], &sample(&name)[..]].concat();
+        let expected = fs::read_to_string(&path).expect("text");
+        assert_eq!(DOCUMENT.program(&input), expected, "{name}");
+        count += 1;
+    }
+    assert_eq!(count, 4);
 }
 
 #[test]

@@ -10,11 +10,12 @@ fn main() {
     let mut generator = Generator::new(seed);
     let generated = (0..).map(|turn| match turn % 50 {
         0 => generator.at_limit(),
+        1 | 26 => generator.overload(),
         turn if turn % 3 == 0 => generator.damaged(),
         _ => generator.case(),
     });
     let mut builder = Generator::new(!seed);
-    let (mut differences, mut builds, mut feeds) = (0, 0, 0);
+    let (mut differences, mut builds, mut feeds, mut void) = (0, 0, 0, 0);
     for (turn, case) in figures().into_iter().chain(generated).take(count).enumerate() {
         let [enough, some] = case.buffers(seed.wrapping_add(turn as u64));
         let lent = if turn % 2 == 0 { enough } else { some };
@@ -22,6 +23,7 @@ fn main() {
             differences += 1;
             println!("{what}\n{}", second::lines::case_line(&case));
         }
+        void += usize::from(case.table_need() != case.table_need_with_insides());
         if turn % 7 == 0 {
             if let Some(what) = feed_difference(&case.feed(seed.wrapping_add(turn as u64))) {
                 differences += 1;
@@ -39,6 +41,6 @@ fn main() {
             builds += 1;
         }
     }
-    println!("{count} messages, {feeds} of them in parts too, and {builds} builds, {differences} differences");
+    println!("{count} messages, {void} with a void group, {feeds} in parts too, and {builds} builds, {differences} differences");
     std::process::exit(i32::from(differences > 0));
 }

@@ -19,6 +19,9 @@ put-start-requires c κs = search needs
 put-walk-requires : tie.Need-put-walk-requires
 put-walk-requires c κs = search needs
 
+put-watch-requires : tie.Need-put-watch-requires
+put-watch-requires c κs = search needs
+
 put-open-requires : tie.Need-put-open-requires
 put-open-requires c κs = search needs
 
@@ -30,13 +33,14 @@ same-length c = search needs
 
 returns-2 : tie.Need-returns-2
 returns-2 c =
-    let p4 = c .before .before in
+    let p5 = c .before .before in
+    let p4 = p5 .before .before .before .before in
     let p3 = p4 .before .before .before .before in
     let p2 = p3 .before .before .before .before in
     let p1 = p2 .before .before .before .before in
     let f = p1 .before .before .before .before .before in
     let s = f .before .before in
-    rw (p4 .put-open2 .ensures, p3 .put-open .ensures, p2 .put-walk .ensures, p1 .put-start .ensures)
+    rw (p5 .put-open2 .ensures, p4 .put-open .ensures, p3 .put-watch .ensures, p2 .put-walk .ensures, p1 .put-start .ensures)
     (state-kept (s .args .p) (s .args .state .now) (f .if1 .left))
 
 pub keep-spec : {M : Type 1} → statement M
@@ -48,6 +52,7 @@ keep-spec =
     element-copy-out-inner
     put-start-requires
     put-walk-requires
+    put-watch-requires
     put-open-requires
     put-open-requires-2
     same-length

@@ -13,11 +13,14 @@ open-at-requires-2 c κs = search needs
 four-at-requires : tie.Need-four-at-requires
 four-at-requires c κs = search needs
 
-counts-in-requires : tie.Need-counts-in-requires
-counts-in-requires c κs = search needs
+counts-at-requires : tie.Need-counts-at-requires
+counts-at-requires c κs = search needs
 
-shared-slice-read-t8 : tie.Need-shared-slice-read-t8
-shared-slice-read-t8 c = search needs
+counts-at-requires-2 : tie.Need-counts-at-requires-2
+counts-at-requires-2 c κs = search needs
+
+shared-slice-read-t9 : tie.Need-shared-slice-read-t9
+shared-slice-read-t9 c = search needs
 
 number-at-requires : tie.Need-number-at-requires
 number-at-requires c κs = search needs
@@ -31,12 +34,19 @@ number-at-requires-3 c κs = search needs
 number-at-requires-4 : tie.Need-number-at-requires-4
 number-at-requires-4 c κs = search needs
 
+shared-slice-read-t16 : tie.Need-shared-slice-read-t16
+shared-slice-read-t16 c = search needs
+
+number-at-requires-5 : tie.Need-number-at-requires-5
+number-at-requires-5 c κs = search needs
+
 returns : tie.Need-returns
 unfolding walkIn
 returns c =
-    let n = c .before .before .before in
+    let m = c .before .before in
+    let n = m .before .before .before in
     let k = n .before .before in
-    rw (k .before .before .before .open-at .ensures, k .before .before .open-at2 .ensures, k .before .four-at .ensures, k .counts-in .ensures, n .number-at .ensures, c .before .before .number-at2 .ensures, c .before .number-at3 .ensures, c .number-at4 .ensures)
+    rw (k .before .before .before .before .open-at .ensures, k .before .before .before .open-at2 .ensures, k .before .before .four-at .ensures, k .before .counts-at .ensures, k .counts-at2 .ensures, n .number-at .ensures, m .before .before .number-at2 .ensures, m .before .number-at3 .ensures, m .number-at4 .ensures, c .number-at5 .ensures)
 
 pub walk-in-spec : {M : Type 1} → statement M
 walk-in-spec =
@@ -45,10 +55,13 @@ walk-in-spec =
     open-at-requires
     open-at-requires-2
     four-at-requires
-    counts-in-requires
-    shared-slice-read-t8
+    counts-at-requires
+    counts-at-requires-2
+    shared-slice-read-t9
     number-at-requires
     number-at-requires-2
     number-at-requires-3
     number-at-requires-4
+    shared-slice-read-t16
+    number-at-requires-5
     returns)

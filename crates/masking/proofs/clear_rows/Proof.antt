@@ -6,17 +6,17 @@ use Rattle.masking.proofs.clear_rows.Statement.{statement}
 use Rattle.masking.proofs.clear_rows.Tie as tie
 
 abbrev Inv-loop : tie.InvT-loop
-Inv-loop types rows count copy₀ row₀ copy row = Cleared rows count copy₀ copy row
+Inv-loop types rows count message copy₀ row₀ copy row = Cleared rows message count copy₀ copy row
 
 abbrev μ-loop : tie.MeasureT-loop
-μ-loop types rows count copy₀ row₀ copy row = count - row
+μ-loop types rows count message copy₀ row₀ copy row = count - row
 
 loop-holds : tie.Need-loop-holds Inv-loop μ-loop
-loop-holds c = none-cleared _ _ _
+loop-holds c = none-cleared _ _ _ _
 
 clear-row-requires : tie.Need-clear-row-requires Inv-loop μ-loop
 clear-row-requires c κs =
-    let s = c .before .before .before .before .before in
+    let s = c .before .before .before .before .before .before in
     (s .pre .0, rw (c .before .before .loop .inv .long) (s .pre .1 (c .before .before .loop .row) (c .before .loop-test .taken)))
 
 add-row : tie.Need-add-row Inv-loop μ-loop

@@ -39,7 +39,7 @@ returns-3 c =
     let s = c .before .before .before .before .before .before .before .before .before .before .before .before .before .before .before .before .before .before in
     let room = c .before .before .before .before .before .before .before .before .before .before .before .if2 .left in
     by-rows (s .args .r) (s .args .rows .now) (s .args .message .now) (s .args .copy .now) (c .before .before .before .before .before .before .before .before .before .before .before .before .if1 .left) room (c .accept .ensures)
-    (c .before .before .before .clear-rows .ensures ∙ ap (clearedRows (s .args .rows .now) (s .args .r .rows)) (c .before .before .before .before .before .before .before .before .before .copy-octets .ensures ∙ goes-over (s .args .message .now) (s .args .copy .now) room))
+    (c .before .before .before .clear-rows .ensures ∙ ap (clearedRows (s .args .rows .now) (s .args .message .now) (s .args .r .rows)) (c .before .before .before .before .before .before .before .before .before .copy-octets .ensures ∙ goes-over (s .args .message .now) (s .args .copy .now) room))
 
 pub settle-spec : {M : Type 1} → statement M
 settle-spec =

@@ -5,7 +5,7 @@ use borrow.Author.Tests.{not-false}
 use Rattle.pieces.proofs.Accepting.{not-so, not-not}
 use Rattle.pieces.proofs.Feeds.{row-low}
 use Rattle.pieces.proofs.Ends.{kind-fits, end-out, end-refused, end-accepted, end-room}
-use borrow.Author.Needs.{needs}
+use borrow.Author.Needs.{needs, elem-fits-field}
 use Rattle.pieces.proofs.end.Statement.{statement}
 use Rattle.pieces.proofs.end.Tie as tie
 
@@ -38,8 +38,9 @@ returns-2 c =
 array-read-write-header : tie.Need-array-read-write-header
 array-read-write-header c = search needs
 
+-- by what is known of the octets of `head`, the fifth field
 cast-write-header : tie.Need-cast-write-header
-cast-write-header c = search needs
+cast-write-header c = search (elem-fits-field, tt, c .before .before .before .before .before .before .before .before .before .good .0 .1 .1 .1 .1 .1 .1 .0 .1 .1)
 
 cast-write-header-2 : tie.Need-cast-write-header-2
 cast-write-header-2 c =

@@ -53,25 +53,28 @@ next-requires c κs =
 slice-aggregate-write-row : tie.Need-slice-aggregate-write-row Inv-loop μ-loop
 slice-aggregate-write-row c = search needs
 
+rows-requires-2 : tie.Need-rows-requires-2 Inv-loop μ-loop
+rows-requires-2 c κs = search needs
+
 write-row-requires : tie.Need-write-row-requires Inv-loop μ-loop
-write-row-requires c κs = record { few = rw (c .before .before .before .before .before .before .before .rows .ensures) (row-low (c .before .before .before .before .before .before .before .before .before .loop .inv .feeds .all)); long = c .before .before .before .next .ensures .long }
+write-row-requires c κs = record { few = rw (c .before .before .before .before .before .before .before .before .rows .ensures) (row-low (c .before .before .before .before .before .before .before .before .before .before .loop .inv .feeds .all)); long = c .before .before .before .before .next .ensures .long }
 
 add-i : tie.Need-add-i Inv-loop μ-loop
 add-i c =
-    let i = c .before .before .before .before .before .before .before .before .before .before .before .before .before .before .loop .inv in
-    let part = c .before .before .before .before .before .before .before .before .before .before .before .before .before .before .before .before .before .before .args .part .now in
-    omega (arith, i .low, c .before .before .before .before .before .before .before .before .before .before .before .before .before .loop-test .taken, c .before .before .before .before .before .before .before .before .next .ensures .most, rest-long part (c .before .before .before .before .before .before .before .before .before .before .before .before .before .before .loop .i))
+    let i = c .before .before .before .before .before .before .before .before .before .before .before .before .before .before .before .loop .inv in
+    let part = c .before .before .before .before .before .before .before .before .before .before .before .before .before .before .before .before .before .before .before .args .part .now in
+    omega (arith, i .low, c .before .before .before .before .before .before .before .before .before .before .before .before .before .before .loop-test .taken, c .before .before .before .before .before .before .before .before .before .next .ensures .most, rest-long part (c .before .before .before .before .before .before .before .before .before .before .before .before .before .before .before .loop .i))
 
 loop-less : tie.Need-loop-less Inv-loop μ-loop
 loop-less c =
-    let part = c .before .before .before .before .before .before .before .before .before .before .before .before .before .before .before .before .before .before .args .part .now in
-    omega (arith, c .before .before .before .before .before .before .before .before .before .before .before .before .before .loop-test .taken, c .before .before .before .before .before .before .before .before .next .ensures .least, c .before .before .before .before .before .before .before .before .next .ensures .most, rest-long part (c .before .before .before .before .before .before .before .before .before .before .before .before .before .before .loop .i))
+    let part = c .before .before .before .before .before .before .before .before .before .before .before .before .before .before .before .before .before .before .before .args .part .now in
+    omega (arith, c .before .before .before .before .before .before .before .before .before .before .before .before .before .before .loop-test .taken, c .before .before .before .before .before .before .before .before .before .next .ensures .least, c .before .before .before .before .before .before .before .before .before .next .ensures .most, rest-long part (c .before .before .before .before .before .before .before .before .before .before .before .before .before .before .before .loop .i))
 
 loop-again : tie.Need-loop-again Inv-loop μ-loop
 loop-again c =
-    let l = c .before .before .before .before .before .before .before .before .before .before .before .before .before .before .loop in
-    let part = c .before .before .before .before .before .before .before .before .before .before .before .before .before .before .before .before .before .before .args .part .now in
-    loops-next (l .inv) (c .before .before .before .before .before .before .before .before .before .before .before .before .before .loop-test .taken) (rw (rest-is part (l .i)) at (c .before .before .before .before .before .before .before .before .next .ensures)) (c .before .before .before .before .write-row .ensures ∙ rw (c .before .before .before .before .before .before .before .before .before .before .before .before .rows .ensures))
+    let l = c .before .before .before .before .before .before .before .before .before .before .before .before .before .before .before .loop in
+    let part = c .before .before .before .before .before .before .before .before .before .before .before .before .before .before .before .before .before .before .before .args .part .now in
+    loops-next (l .inv) (c .before .before .before .before .before .before .before .before .before .before .before .before .before .before .loop-test .taken) (rw (rest-is part (l .i)) at (c .before .before .before .before .before .before .before .before .before .next .ensures)) (c .before .before .before .before .write-row .ensures ∙ rw (c .before .before .before .before .before .before .before .before .before .before .before .before .before .rows .ensures, c .before .before .before .before .before .rows2 .ensures))
 
 same-length : tie.Need-same-length Inv-loop μ-loop
 same-length c = c .before .loop .inv .long
@@ -80,4 +83,4 @@ returns : tie.Need-returns Inv-loop μ-loop
 returns c = feeds-end (c .before .loop .inv .feeds) (c .loop-test .left)
 
 pub feed-all-spec : {M : Type 1} → statement M
-feed-all-spec = tie.close (tie.spec Inv-loop μ-loop numbers-requires loop-holds rows-requires slice-aggregate-next sub-next part-next-start part-next-end slice-aggregate-next-2 next-requires slice-aggregate-write-row write-row-requires add-i loop-less loop-again same-length returns)
+feed-all-spec = tie.close (tie.spec Inv-loop μ-loop numbers-requires loop-holds rows-requires slice-aggregate-next sub-next part-next-start part-next-end slice-aggregate-next-2 next-requires slice-aggregate-write-row rows-requires-2 write-row-requires add-i loop-less loop-again same-length returns)

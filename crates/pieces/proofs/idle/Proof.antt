@@ -10,9 +10,12 @@ no-level-requires c κs = search needs
 no-counts-requires : tie.Need-no-counts-requires
 no-counts-requires c κs = search needs
 
+no-counts-requires-2 : tie.Need-no-counts-requires-2
+no-counts-requires-2 c κs = search needs
+
 returns : tie.Need-returns
 unfolding idleBy
-returns c = rw (c .before .no-level .ensures, c .no-counts .ensures)
+returns c = rw (c .before .before .no-level .ensures, c .before .no-counts .ensures, c .no-counts2 .ensures)
 
 pub idle-spec : {M : Type 1} → statement M
-idle-spec = tie.close (tie.spec no-level-requires no-counts-requires returns)
+idle-spec = tie.close (tie.spec no-level-requires no-counts-requires no-counts-requires-2 returns)

@@ -6,7 +6,6 @@ use lib.ListN.{length, drop, length-drop}
 use Rattle.rules.specs.Octets.{numbersIn}
 use Rattle.reading.proofs.Endings.{rest-is}
 use Rattle.pieces.proofs.Feeds.{Looping, begins, loops-next, row-low, feeds-end, rest-long}
-use Rattle.wokpieces.proofs.Stores.{row-stored, stored-length}
 use borrow.Author.Needs.{needs}
 use Rattle.wokpieces.proofs.feed.Statement.{statement}
 use Rattle.wokpieces.proofs.feed.Tie as tie
@@ -52,29 +51,45 @@ next-requires c κs =
       long = i .six;
     }
 
-slice-aggregate-put-row : tie.Need-slice-aggregate-put-row Inv-loop μ-loop
-slice-aggregate-put-row c = search needs
+slice-aggregate-write-row : tie.Need-slice-aggregate-write-row Inv-loop μ-loop
+slice-aggregate-write-row c = search needs
 
-put-row-requires : tie.Need-put-row-requires Inv-loop μ-loop
-put-row-requires c κs = record { few = rw (c .before .before .before .before .before .before .before .rows .ensures) (row-low (c .before .before .before .before .before .before .before .before .before .loop .inv .0 .feeds .all)); long = c .before .before .before .next .ensures .long }
+rows-requires-2 : tie.Need-rows-requires-2 Inv-loop μ-loop
+rows-requires-2 c κs = search needs
+
+write-row-requires : tie.Need-write-row-requires Inv-loop μ-loop
+write-row-requires c κs =
+    let n = c .before .before .before .before in
+    let r = n .before .before .before .before in
+    record { few = rw (r .rows .ensures) (row-low (r .before .before .loop .inv .0 .feeds .all)); long = n .next .ensures .long }
 
 add-i : tie.Need-add-i Inv-loop μ-loop
 add-i c =
-    let i = c .before .before .before .before .before .before .before .before .before .before .before .before .before .before .loop .inv .0 in
-    let part = c .before .before .before .before .before .before .before .before .before .before .before .before .before .before .before .before .before .before .args .part .now in
-    omega (arith, i .low, c .before .before .before .before .before .before .before .before .before .before .before .before .before .loop-test .taken, c .before .before .before .before .before .before .before .before .next .ensures .most, rest-long part (c .before .before .before .before .before .before .before .before .before .before .before .before .before .before .loop .i))
+    let n = c .before .before .before .before .before .before .before .before .before in
+    let t = n .before .before .before .before .before in
+    let l = t .before in
+    let part = l .before .before .before .before .args .part .now in
+    omega (arith, l .loop .inv .0 .low, t .loop-test .taken, n .next .ensures .most, rest-long part (l .loop .i))
 
 loop-less : tie.Need-loop-less Inv-loop μ-loop
 loop-less c =
-    let part = c .before .before .before .before .before .before .before .before .before .before .before .before .before .before .before .before .before .before .args .part .now in
-    omega (arith, c .before .before .before .before .before .before .before .before .before .before .before .before .before .loop-test .taken, c .before .before .before .before .before .before .before .before .next .ensures .least, c .before .before .before .before .before .before .before .before .next .ensures .most, rest-long part (c .before .before .before .before .before .before .before .before .before .before .before .before .before .before .loop .i))
+    let n = c .before .before .before .before .before .before .before .before .before in
+    let t = n .before .before .before .before .before in
+    let l = t .before in
+    let part = l .before .before .before .before .args .part .now in
+    omega (arith, t .loop-test .taken, n .next .ensures .least, n .next .ensures .most, rest-long part (l .loop .i))
 
 loop-again : tie.Need-loop-again Inv-loop μ-loop
 loop-again c =
-    let l = c .before .before .before .before .before .before .before .before .before .before .before .before .before .before .loop in
-    let part = c .before .before .before .before .before .before .before .before .before .before .before .before .before .before .before .before .before .before .args .part .now in (
-      loops-next (l .inv .0) (c .before .before .before .before .before .before .before .before .before .before .before .before .before .loop-test .taken) (rw (rest-is part (l .i)) at (c .before .before .before .before .before .before .before .before .next .ensures)) (ap numbersIn (c .before .before .before .before .put-row .ensures) ∙ row-stored _ (l .rows) _ _ ∙ rw (c .before .before .before .before .before .before .before .before .before .before .before .before .rows .ensures)),
-      ap length (c .before .before .before .before .put-row .ensures) ∙ stored-length _ (l .rows) _ _ ∙ l .inv .1,
+    let w = c .before .before .before .before in
+    let m = w .before in
+    let n = m .before .before .before .before in
+    let r = n .before .before .before .before in
+    let t = r .before in
+    let l = t .before in
+    let part = l .before .before .before .before .args .part .now in (
+      loops-next (l .loop .inv .0) (t .loop-test .taken) (rw (rest-is part (l .loop .i)) at (n .next .ensures)) (w .write-row .ensures .numbers-left ∙ rw (r .rows .ensures, m .rows2 .ensures)),
+      w .write-row .ensures .long ∙ l .loop .inv .1,
     )
 
 same-length : tie.Need-same-length Inv-loop μ-loop
@@ -84,4 +99,4 @@ returns : tie.Need-returns Inv-loop μ-loop
 returns c = let g = feeds-end (c .before .loop .inv .0 .feeds) (c .loop-test .left) in record { state = g .state; numbers = g .rows-left; long = c .before .loop .inv .1 }
 
 pub feed-spec : {M : Type 1} → statement M
-feed-spec = tie.close (tie.spec Inv-loop μ-loop numbers-requires loop-holds rows-requires slice-aggregate-next sub-next part-next-start part-next-end slice-aggregate-next-2 next-requires slice-aggregate-put-row put-row-requires add-i loop-less loop-again same-length returns)
+feed-spec = tie.close (tie.spec Inv-loop μ-loop numbers-requires loop-holds rows-requires slice-aggregate-next sub-next part-next-start part-next-end slice-aggregate-next-2 next-requires slice-aggregate-write-row rows-requires-2 write-row-requires add-i loop-less loop-again same-length returns)

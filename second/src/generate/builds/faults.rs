@@ -5,13 +5,14 @@ use super::{is_group, Build};
 use crate::generate::random::Random;
 use crate::generate::tables::{make_old, Row, KIND, TYPE};
 use crate::generate::Case;
+use crate::rules::Listed;
 use crate::DOCUMENT;
 
 type Shape = fn(&mut Random, &mut Build);
 
 /// On the rows of a cleaned copy. What comes of each by itself: first those that
 /// stay acceptable, then 1 and 7, then 14, then what may be 16 or nothing.
-const OF_KEPT: [Shape; 35] = [
+const OF_KEPT: [Shape; 36] = [
     as_it_is,
     moved,
     other_group_numbers,
@@ -47,6 +48,7 @@ const OF_KEPT: [Shape; 35] = [
     repeated,
     unexpected,
     group_unlisted,
+    filled_up,
 ];
 
 /// Those, and two on the rows of a message with what it has set aside.
@@ -434,4 +436,33 @@ fn group_unlisted(random: &mut Random, build: &mut Build) {
     if let Some(at) = some_of(random, build, is_group) {
         build.rows_mut()[at][2] = 5;
     }
+}
+
+/// Some group that has a limit holds about as many rows as it may, and perhaps
+/// more.
+fn filled_up(random: &mut Random, build: &mut Build) {
+    let Some((group, line, most)) = limited(build) else {
+        return;
+    };
+    let mut rows = build.rows().to_vec();
+    let number = group as u16 + 1;
+    let row = [number, line.typ.into(), line.inst.number().into(), 0, 1, 0];
+    let held = rows.iter().filter(|other| other[..3] == row[..3]).count();
+    for _ in held..random.between(most - 1, most + 3) {
+        insert(&mut rows, group + 1, row);
+    }
+    build.put_rows(&rows);
+}
+
+/// The number of the first row of a group with a limit, the line that has it and
+/// the limit.
+fn limited(build: &Build) -> Option<(usize, &'static Listed, usize)> {
+    let typ = u8::try_from(build.table[TYPE]).ok()?;
+    let body = &DOCUMENT.message_of(typ)?.body;
+    build.rows().iter().enumerate().find_map(|(at, row)| {
+        let (typ, inst) = (row[1] as u8, row[2] as u8);
+        let group = body.iter().find(|listed| listed.is(typ, inst))?;
+        let (line, most) = group.limits().next()?;
+        (row[0] == 0).then_some((at, &group.inside[line], most))
+    })
 }

@@ -1,8 +1,10 @@
 //! What a builder is given: the tables of accepted messages, whole and with one
-//! fault, small tables made by chance, and tables at the limits.
+//! fault, small tables made by chance, tables at the limits, and tables with groups
+//! that are too full or nearly.
 
 mod faults;
 mod limits;
+mod overload;
 mod small;
 
 use super::compose::compose;
@@ -144,6 +146,7 @@ pub fn builds() -> Vec<Build> {
         }
         builds.extend(limits::limits(&mut random));
         builds.extend(limits::types(&mut random));
+        builds.extend(overload::overloads(&mut random));
     }
     builds.extend((0..SMALL).map(|_| small::small(&mut random)));
     builds

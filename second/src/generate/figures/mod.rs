@@ -6,6 +6,7 @@ mod crowd;
 mod framing;
 mod header;
 mod listed;
+mod overload;
 mod value;
 
 use super::draft::{Draft, Element, Run, Value};
@@ -33,6 +34,7 @@ pub fn figures() -> Vec<Case> {
         figures.framing();
         figures.headers();
         figures.crowds();
+        figures.overloads();
     }
     figures.cases
 }

@@ -1,5 +1,6 @@
 //! Changes of messages and of the lines of their listings.
 
+use super::Shown::{Builds, Octets, Pieces};
 use super::{on_message, Bears, Change, Changes, ALL};
 use second::rules::{Inst, Kinds, Listed, Message};
 use second::{Rules, DOCUMENT};
@@ -96,6 +97,7 @@ impl Changes {
                 self.of_kinds_of(&place);
                 self.of_order_of(&place);
                 self.of_inside(&place);
+                self.of_limit(&place);
                 if place.at() == 0 {
                     self.of_added_lines(&place);
                 }
@@ -199,6 +201,25 @@ impl Changes {
             });
             let why = "one of the two is optional, and only mandatory lines are told in order";
             change.silent_where(!mandatory(&at) || !mandatory(&other), why);
+        }
+    }
+
+    /// A limit by one and none, and one where there is none.
+    fn of_limit(&mut self, place: &Place) {
+        match place.line().most {
+            Some(most) => {
+                for other in [Some(most - 1), Some(most + 1), None] {
+                    let change = self.line("limit of a line", place, |listed| listed.most = other);
+                    // A group that is not void has no row of another standing.
+                    change.bears = place.bears();
+                    change.shown_by(&[Octets, Builds, Pieces]);
+                }
+            }
+            None => {
+                let change = self.line("limit too many", place, |listed| listed.most = Some(10));
+                let why = "a body is no group, and is never void";
+                change.silent_where(place.path.len() == 1, why);
+            }
         }
     }
 

@@ -87,8 +87,13 @@ impl Changes {
 
     fn of_cover(&mut self, typ: u8) {
         for (standing, own) in DOCUMENT.facts(typ).cover.into_iter().enumerate() {
-            let covers = [Cover::Nothing, Cover::Rest, Cover::Whole].into_iter();
-            for cover in covers.filter(|cover| *cover != own) {
+            let mut covers = vec![Cover::Nothing, Cover::Rest, Cover::Whole];
+            // A value that is no group's has no values inside.
+            if DOCUMENT.facts(typ).group {
+                covers.push(Cover::Values);
+            }
+            covers.retain(|cover| *cover != own);
+            for cover in covers {
                 let name = format!("{typ} of standing {standing}: {cover:?}");
                 let change = self.facts("cover by type and standing", typ, name, |facts| {
                     facts.cover[standing] = cover;
@@ -133,8 +138,10 @@ fn why_silent(typ: u8, standing: usize, covers: [Cover; 2]) -> Option<&'static s
         Least::Fixed(least) => least.saturating_sub(1),
         Least::ByFirst(by_first) => by_first.least.iter().max().map_or(0, |least| least - 1),
     };
+    let can_be_void = lines.iter().any(|listed| listed.limits().next().is_some());
     match standing {
         0 | 2 | 3 if lines.is_empty() => Some(NOWHERE),
+        4 if !can_be_void => Some("no element of the type has a limit inside"),
         2 if lines.iter().all(|listed| listed.many) => Some("every line of the type may repeat"),
         3 if longest_short == 0 => Some("a short value of the type has no octet"),
         3 if longest_short == 1 && !covers.contains(&Cover::Whole) => {

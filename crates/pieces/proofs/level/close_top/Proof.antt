@@ -1,11 +1,9 @@
 -- `close_top` closes the innermost level where nothing is left of it. Assumes nothing.
-use mathlib.Core.Path.{_≡_, ap, _∙_}
+use mathlib.Core.Path.{_≡_, refl, ap, _∙_}
 use Prim.Native.Nat.{_-_}
 use native.Mathlib.Nat.{pos-of-ne-zero}
 use borrow.Author.Tests.{eq-eqb, ne-eqb}
 use Rattle.pieces.specs.Coded.{closeTop, withDepth}
-use Rattle.pieces.specs.Fits.{Slot}
-use Rattle.pieces.proofs.Fits.{slot-at}
 use borrow.Author.Needs.{needs}
 use Rattle.pieces.proofs.level.close_top.Statement.{statement}
 use Rattle.pieces.proofs.level.close_top.Tie as tie
@@ -27,17 +25,8 @@ returns-2 : tie.Need-returns-2
 unfolding closeTop
 returns-2 c = simp (ne-eqb _ _ (c .before .before .before .if1 .left), ne-eqb _ _ (c .if2 .taken))
 
-of-level-requires : tie.Need-of-level-requires
-of-level-requires c κs =
-    let w = c .before .before .before .before .before .args .t3 in
-    record { numbers = c .before .before .before .before .before .pre .numbers; level = slot-at (w .levels) (w .depth - 1) (c .before .before .before .before .before .pre .sized .each) .level }
-
-close-level-requires : tie.Need-close-level-requires
-close-level-requires c κs =
-    let w = c .before .before .before .before .before .before .before .before .before .args .t3 in
-    let p = c .before .before .before .before .before .before .before .before .before .pre in
-    let s = slot-at (w .levels) (w .depth - 1) (p .sized .each) in
-    record { lent = record { kind = p .sized .kind (pos-of-ne-zero (c .before .before .before .before .before .before .before .if1 .left)); level = s .level; lines = c .before .before .before .of-level .ensures }; home = s .home }
+closed-requires : tie.Need-closed-requires
+closed-requires c κs = record { closing = c .before .before .before .before .before .pre; inside = pos-of-ne-zero (c .before .before .before .if1 .left); top = refl }
 
 with-depth-requires : tie.Need-with-depth-requires
 with-depth-requires c κs = search needs
@@ -45,9 +34,9 @@ with-depth-requires c κs = search needs
 returns-3 : tie.Need-returns-3
 unfolding closeTop
 returns-3 c =
-    let w = c .before .before .before .before .before .before .before .before .before .before .before .args .t3 in
-    simp (ne-eqb _ _ (c .before .before .before .before .before .before .before .before .before .if1 .left), eq-eqb _ _ (c .before .before .before .before .before .before .if2 .left))
-    (c .with-depth .ensures ∙ ap (withDepth w (w .depth - 1)) (c .before .close-level .ensures))
+    let w = c .before .before .before .before .before .before .before .args .t3 in
+    simp (ne-eqb _ _ (c .before .before .before .before .before .if1 .left), eq-eqb _ _ (c .before .before .if2 .left))
+    (c .with-depth .ensures ∙ ap (withDepth w (w .depth - 1)) (c .before .closed .ensures))
 
 pub close-top-spec : {M : Type 1} → statement M
-close-top-spec = tie.close (tie.spec returns sub-top mul-f element-copy-out-f returns-2 of-level-requires close-level-requires with-depth-requires returns-3)
+close-top-spec = tie.close (tie.spec returns sub-top mul-f element-copy-out-f returns-2 closed-requires with-depth-requires returns-3)

@@ -5,21 +5,21 @@ use borrow.Author.Needs.{needs}
 use Rattle.pieces.proofs.pace.gather_four.Statement.{statement}
 use Rattle.pieces.proofs.pace.gather_four.Tie as tie
 
-shared-slice-read-t6 : tie.Need-shared-slice-read-t6
-shared-slice-read-t6 c = search needs
+shared-slice-read-t7 : tie.Need-shared-slice-read-t7
+shared-slice-read-t7 c = search needs
 
-shared-slice-read-t8 : tie.Need-shared-slice-read-t8
-shared-slice-read-t8 c = search needs
+shared-slice-read-t9 : tie.Need-shared-slice-read-t9
+shared-slice-read-t9 c = search needs
 
-shared-slice-read-t10 : tie.Need-shared-slice-read-t10
-shared-slice-read-t10 c = search needs
+shared-slice-read-t11 : tie.Need-shared-slice-read-t11
+shared-slice-read-t11 c = search needs
 
-shared-slice-read-t12 : tie.Need-shared-slice-read-t12
-shared-slice-read-t12 c = search needs
+shared-slice-read-t13 : tie.Need-shared-slice-read-t13
+shared-slice-read-t13 c = search needs
 
 returns : tie.Need-returns
 unfolding gatherFour
 returns c = refl
 
 pub gather-four-spec : {M : Type 1} → statement M
-gather-four-spec = tie.close (tie.spec shared-slice-read-t6 shared-slice-read-t8 shared-slice-read-t10 shared-slice-read-t12 returns)
+gather-four-spec = tie.close (tie.spec shared-slice-read-t7 shared-slice-read-t9 shared-slice-read-t11 shared-slice-read-t13 returns)

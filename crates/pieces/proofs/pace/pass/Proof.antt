@@ -5,12 +5,12 @@ use borrow.Author.Needs.{needs}
 use Rattle.pieces.proofs.pace.pass.Statement.{statement}
 use Rattle.pieces.proofs.pace.pass.Tie as tie
 
-sub-t6 : tie.Need-sub-t6
-sub-t6 c = search needs
+sub-t7 : tie.Need-sub-t7
+sub-t7 c = search needs
 
 returns : tie.Need-returns
 unfolding passBy
 returns c = refl
 
 pub pass-spec : {M : Type 1} → statement M
-pass-spec = tie.close (tie.spec sub-t6 returns)
+pass-spec = tie.close (tie.spec sub-t7 returns)

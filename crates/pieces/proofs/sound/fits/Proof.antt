@@ -1,3 +1,4 @@
+-- `fits` goes by its tests. Assumes nothing.
 use mathlib.Core.Path.{_≡_, refl, sym, _∙_}
 use native.Mathlib.Omega.{arith}
 use borrow.Author.Tests.{le-leb, lt-leb}
@@ -58,39 +59,26 @@ returns-8 : tie.Need-returns-8
 unfolding walkFits
 returns-8 c = sym (and-yes _ _ _ (not-not _ (c .before .before .before .before .before .before .before .before .before .before .before .before .before .before .fits-level .ensures) (c .before .before .before .before .before .before .before .before .before .before .before .before .before .if1 .left)) (and-yes _ _ _ (not-not _ (c .before .before .before .before .before .before .before .before .before .before .before .before .fits-level2 .ensures) (c .before .before .before .before .before .before .before .before .before .before .before .if2 .left)) (and-yes _ _ _ (le-leb _ _ (c .before .before .before .before .before .before .before .before .before .before .if3 .left)) (and-yes _ _ _ (le-leb _ _ (c .before .before .before .before .before .before .before .if4 .left)) (and-yes _ _ _ (le-leb _ _ (c .before .before .before .before .before .before .if5 .left)) (and-yes _ _ _ (le-leb _ _ (c .before .before .before .before .before .if6 .left)) (and-yes _ _ _ (le-leb _ _ (c .before .before .if7 .left)) (and-no _ _ (lt-leb _ _ (c .if8 .taken))))))))))
 
-fits-kind-requires : tie.Need-fits-kind-requires
-fits-kind-requires c κs = search needs
+fits-back-requires : tie.Need-fits-back-requires
+fits-back-requires c κs = search needs
 
 returns-9 : tie.Need-returns-9
 unfolding walkFits
-returns-9 c = sym (and-yes _ _ _ (not-not _ (c .before .before .before .before .before .before .before .before .before .before .before .before .before .before .before .before .fits-level .ensures) (c .before .before .before .before .before .before .before .before .before .before .before .before .before .before .before .if1 .left)) (and-yes _ _ _ (not-not _ (c .before .before .before .before .before .before .before .before .before .before .before .before .before .before .fits-level2 .ensures) (c .before .before .before .before .before .before .before .before .before .before .before .before .before .if2 .left)) (and-yes _ _ _ (le-leb _ _ (c .before .before .before .before .before .before .before .before .before .before .before .before .if3 .left)) (and-yes _ _ _ (le-leb _ _ (c .before .before .before .before .before .before .before .before .before .if4 .left)) (and-yes _ _ _ (le-leb _ _ (c .before .before .before .before .before .before .before .before .if5 .left)) (and-yes _ _ _ (le-leb _ _ (c .before .before .before .before .before .before .before .if6 .left)) (and-yes _ _ _ (le-leb _ _ (c .before .before .before .before .if7 .left)) (and-yes _ _ _ (le-leb _ _ (c .before .before .if8 .left)) (and-no _ _ (not-so _ (c .before .fits-kind .ensures) (c .if9 .taken)))))))))))
+returns-9 c = sym (and-yes _ _ _ (not-not _ (c .before .before .before .before .before .before .before .before .before .before .before .before .before .before .before .before .before .fits-level .ensures) (c .before .before .before .before .before .before .before .before .before .before .before .before .before .before .before .before .if1 .left)) (and-yes _ _ _ (not-not _ (c .before .before .before .before .before .before .before .before .before .before .before .before .before .before .before .fits-level2 .ensures) (c .before .before .before .before .before .before .before .before .before .before .before .before .before .before .if2 .left)) (and-yes _ _ _ (le-leb _ _ (c .before .before .before .before .before .before .before .before .before .before .before .before .before .if3 .left)) (and-yes _ _ _ (le-leb _ _ (c .before .before .before .before .before .before .before .before .before .before .if4 .left)) (and-yes _ _ _ (le-leb _ _ (c .before .before .before .before .before .before .before .before .before .if5 .left)) (and-yes _ _ _ (le-leb _ _ (c .before .before .before .before .before .before .before .before .if6 .left)) (and-yes _ _ _ (le-leb _ _ (c .before .before .before .before .before .if7 .left)) (and-yes _ _ _ (le-leb _ _ (c .before .before .before .if8 .left)) (and-no _ _ (not-so _ (c .before .fits-back .ensures) (c .if9 .taken)))))))))))
+
+fits-kind-requires : tie.Need-fits-kind-requires
+fits-kind-requires c κs = search needs
+
+returns-10 : tie.Need-returns-10
+unfolding walkFits
+returns-10 c = sym (and-yes _ _ _ (not-not _ (c .before .before .before .before .before .before .before .before .before .before .before .before .before .before .before .before .before .before .before .fits-level .ensures) (c .before .before .before .before .before .before .before .before .before .before .before .before .before .before .before .before .before .before .if1 .left)) (and-yes _ _ _ (not-not _ (c .before .before .before .before .before .before .before .before .before .before .before .before .before .before .before .before .before .fits-level2 .ensures) (c .before .before .before .before .before .before .before .before .before .before .before .before .before .before .before .before .if2 .left)) (and-yes _ _ _ (le-leb _ _ (c .before .before .before .before .before .before .before .before .before .before .before .before .before .before .before .if3 .left)) (and-yes _ _ _ (le-leb _ _ (c .before .before .before .before .before .before .before .before .before .before .before .before .if4 .left)) (and-yes _ _ _ (le-leb _ _ (c .before .before .before .before .before .before .before .before .before .before .before .if5 .left)) (and-yes _ _ _ (le-leb _ _ (c .before .before .before .before .before .before .before .before .before .before .if6 .left)) (and-yes _ _ _ (le-leb _ _ (c .before .before .before .before .before .before .before .if7 .left)) (and-yes _ _ _ (le-leb _ _ (c .before .before .before .before .before .if8 .left)) (and-yes _ _ _ (not-not _ (c .before .before .before .fits-back .ensures) (c .before .before .if9 .left)) (and-no _ _ (not-so _ (c .before .fits-kind .ensures) (c .if10 .taken))))))))))))
 
 waiting-requires : tie.Need-waiting-requires
 waiting-requires c κs = search needs
 
-returns-10 : tie.Need-returns-10
+returns-11 : tie.Need-returns-11
 unfolding walkFits
-returns-10 c = c .waiting .ensures ∙ sym (and-yes _ _ _ (not-not _ (c .before .before .before .before .before .before .before .before .before .before .before .before .before .before .before .before .before .fits-level .ensures) (c .before .before .before .before .before .before .before .before .before .before .before .before .before .before .before .before .if1 .left)) (and-yes _ _ _ (not-not _ (c .before .before .before .before .before .before .before .before .before .before .before .before .before .before .before .fits-level2 .ensures) (c .before .before .before .before .before .before .before .before .before .before .before .before .before .before .if2 .left)) (and-yes _ _ _ (le-leb _ _ (c .before .before .before .before .before .before .before .before .before .before .before .before .before .if3 .left)) (and-yes _ _ _ (le-leb _ _ (c .before .before .before .before .before .before .before .before .before .before .if4 .left)) (and-yes _ _ _ (le-leb _ _ (c .before .before .before .before .before .before .before .before .before .if5 .left)) (and-yes _ _ _ (le-leb _ _ (c .before .before .before .before .before .before .before .before .if6 .left)) (and-yes _ _ _ (le-leb _ _ (c .before .before .before .before .before .if7 .left)) (and-yes _ _ _ (le-leb _ _ (c .before .before .before .if8 .left)) (and-yes _ _ _ (not-not _ (c .before .before .fits-kind .ensures) (c .before .if9 .left)) (refl))))))))))
+returns-11 c = c .waiting .ensures ∙ sym (and-yes _ _ _ (not-not _ (c .before .before .before .before .before .before .before .before .before .before .before .before .before .before .before .before .before .before .before .before .fits-level .ensures) (c .before .before .before .before .before .before .before .before .before .before .before .before .before .before .before .before .before .before .before .if1 .left)) (and-yes _ _ _ (not-not _ (c .before .before .before .before .before .before .before .before .before .before .before .before .before .before .before .before .before .before .fits-level2 .ensures) (c .before .before .before .before .before .before .before .before .before .before .before .before .before .before .before .before .before .if2 .left)) (and-yes _ _ _ (le-leb _ _ (c .before .before .before .before .before .before .before .before .before .before .before .before .before .before .before .before .if3 .left)) (and-yes _ _ _ (le-leb _ _ (c .before .before .before .before .before .before .before .before .before .before .before .before .before .if4 .left)) (and-yes _ _ _ (le-leb _ _ (c .before .before .before .before .before .before .before .before .before .before .before .before .if5 .left)) (and-yes _ _ _ (le-leb _ _ (c .before .before .before .before .before .before .before .before .before .before .before .if6 .left)) (and-yes _ _ _ (le-leb _ _ (c .before .before .before .before .before .before .before .before .if7 .left)) (and-yes _ _ _ (le-leb _ _ (c .before .before .before .before .before .before .if8 .left)) (and-yes _ _ _ (not-not _ (c .before .before .before .before .fits-back .ensures) (c .before .before .before .if9 .left)) (and-yes _ _ _ (not-not _ (c .before .before .fits-kind .ensures) (c .before .if10 .left)) refl))))))))))
 
 pub fits-spec : {M : Type 1} → statement M
-fits-spec =
-    tie.close
-    (tie.spec
-    element-copy-out-f0
-    element-copy-out-f1
-    fits-level-requires
-    returns
-    fits-level-requires-2
-    returns-2
-    returns-3
-    add-if4
-    add-if4-2
-    returns-4
-    returns-5
-    returns-6
-    returns-7
-    returns-8
-    fits-kind-requires
-    returns-9
-    waiting-requires
-    returns-10)
+fits-spec = tie.close (tie.spec element-copy-out-f0 element-copy-out-f1 fits-level-requires returns fits-level-requires-2 returns-2 returns-3 add-if4 add-if4-2 returns-4 returns-5 returns-6 returns-7 returns-8 fits-back-requires returns-9 fits-kind-requires returns-10 waiting-requires returns-11)

@@ -7,12 +7,12 @@ use Rattle.pieces.proofs.step.gather.Tie as tie
 array-write-some : tie.Need-array-write-some
 array-write-some c = search needs
 
-add-t9 : tie.Need-add-t9
-add-t9 c = search needs
+add-t10 : tie.Need-add-t10
+add-t10 c = search needs
 
 returns : tie.Need-returns
 unfolding gatherBy
 returns c = refl
 
 pub gather-spec : {M : Type 1} → statement M
-gather-spec = tie.close (tie.spec array-write-some add-t9 returns)
+gather-spec = tie.close (tie.spec array-write-some add-t10 returns)

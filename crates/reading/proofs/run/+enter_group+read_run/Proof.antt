@@ -17,7 +17,7 @@ use Rattle.taking.specs.Lacks.{lackOf}
 use Rattle.taking.specs.Lent.{Lines}
 use Rattle.taking.specs.Held.{held}
 use Rattle.reading.specs.Scan.{scan}
-use Rattle.reading.proofs.Runs.{Turning, ran-whole, ran-cut, ran-same, ran-is, ends, breaks, some-group, inner-low, group-length, passes, goes-on, stops, shut-is, few-closed}
+use Rattle.reading.proofs.Runs.{Turning, ran-whole, ran-cut, ran-same, ran-is, ends, breaks, some-group, inner-low, group-within, group-length, passes, goes-on, stops, shut-is, few-closed}
 use Rattle.reading.proofs.run.enter_group.Reads as enter-group
 use Rattle.reading.proofs.run.enter_group.Kinds as enter-group-kinds
 use Rattle.reading.proofs.run.+enter_group+read_run.Lts-enter_group as enter-group-lts
@@ -106,12 +106,12 @@ ends-within : (t : ℕ) (c : read-run-lts.At-loop (read-run-calls t) (read-run-a
 ends-within t c = c .before .before .before .before .before .pre .1 .ends
 
 -- the group that is lent has the length that the head says
-inner-length : (t : ℕ) (c : read-run-lts.After-take-one (read-run-calls t) (read-run-at t) read-run.Post read-run-Inv-loop read-run-μ-loop)
-    → length (take (c .before .before .before .before .before .before .before .loop .at + 4 + c .before .before .before .before .before .look .result .len - (c .before .before .before .before .before .before .before .loop .at + 4))
-    (drop (c .before .before .before .before .before .before .before .loop .at + 4) (c .before .before .before .before .before .before .before .before .before .before .before .before .args .part .now)))
-    ≡ c .before .before .before .before .before .look .result .len
-inner-length t k =
-    let e = k .before .before .before in
+read-run-inner-length : (t : ℕ) (c : read-run-lts.After-take-one (read-run-calls t) (read-run-at t) read-run.Post read-run-Inv-loop read-run-μ-loop)
+    → length (take (c .before .before .before .before .before .before .before .before .before .loop .at + 4 + c .before .before .before .before .before .before .before .look .result .len - (c .before .before .before .before .before .before .before .before .before .loop .at + 4))
+    (drop (c .before .before .before .before .before .before .before .before .before .loop .at + 4) (c .before .before .before .before .before .before .before .before .before .before .before .before .before .before .args .part .now)))
+    ≡ c .before .before .before .before .before .before .before .look .result .len
+read-run-inner-length t k =
+    let e = k .before .before .before .before .before in
     let l = e .before .before .before .before in
     let s = l .before .before .before .before .before in
     group-length (s .args .home) (s .args .base) (s .args .part .now) (l .loop .at) (e .before .before .before .loop-test .taken) (e .before .before .look .ensures .is)
@@ -150,7 +150,7 @@ read-run-returns t c =
 
 read-run-take-one-requires : (t : ℕ) → read-run-lts.Need-take-one-requires (read-run-calls t) (read-run-at t) read-run.Post read-run-Inv-loop read-run-μ-loop
 read-run-take-one-requires t c κs =
-    let e = c .before .before in
+    let e = c .before .before .before .before in
     let l = e .before .before .before .before in
     let s = l .before .before .before .before .before in record {
       lent = lines t (l .before);
@@ -158,58 +158,59 @@ read-run-take-one-requires t c κs =
       parent = s .pre .1 .parent;
       few = l .loop .inv .few;
       ends = omega (arith, ends-within t l, lies t e);
+      value = omega (arith, ends-within t l, group-within (s .args .part .now) (l .loop .at) (e .before .before .look .result .len));
     }
 
 read-run-add-value : (t : ℕ) → read-run-lts.Need-add-value (read-run-calls t) (read-run-at t) read-run.Post read-run-Inv-loop read-run-μ-loop
-read-run-add-value t c = omega (arith, ends-within t (c .before .before .before .before .before .before .before .before .before), lies t (c .before .before .before .before .before))
+read-run-add-value t c = omega (arith, ends-within t (c .before .before .before .before), lies t c)
 
 read-run-add-next : (t : ℕ) → read-run-lts.Need-add-next (read-run-calls t) (read-run-at t) read-run.Post read-run-Inv-loop read-run-μ-loop
-read-run-add-next t c = omega (arith, ends-within t (c .before .before .before .before .before .before .before .before .before .before), lies t (c .before .before .before .before .before .before))
+read-run-add-next t c = omega (arith, ends-within t (c .before .before .before .before .before), lies t (c .before))
+
+read-run-sub-own : (t : ℕ) → read-run-lts.Need-sub-own (read-run-calls t) (read-run-at t) read-run.Post read-run-Inv-loop read-run-μ-loop
+read-run-sub-own t c = omega arith
+
+read-run-part-own-start : (t : ℕ) → read-run-lts.Need-part-own-start (read-run-calls t) (read-run-at t) read-run.Post read-run-Inv-loop read-run-μ-loop
+read-run-part-own-start t c = omega arith
+
+read-run-part-own-end : (t : ℕ) → read-run-lts.Need-part-own-end (read-run-calls t) (read-run-at t) read-run.Post read-run-Inv-loop read-run-μ-loop
+read-run-part-own-end t c = lies t (c .before)
 
 read-run-loop-less : (t : ℕ) → read-run-lts.Need-loop-less (read-run-calls t) (read-run-at t) read-run.Post read-run-Inv-loop read-run-μ-loop
 read-run-loop-less t c =
-    let e = c .before .before .before .before .before .before .before .before in omega (arith, lies t e, e .before .before .before .loop-test .taken)
+    let e = c .before .before .before .before .before .before .before .before .before in omega (arith, lies t e, e .before .before .before .loop-test .taken)
 
 read-run-loop-again : (t : ℕ) → read-run-lts.Need-loop-again (read-run-calls t) (read-run-at t) read-run.Post read-run-Inv-loop read-run-μ-loop
 read-run-loop-again t c =
-    let k = c .before .before .before .before .before in
-    let e = k .before .before .before in
+    let k = c .before .before .before .before in
+    let e = k .before .before .before .before .before in
     let l = e .before .before .before .before in
     let s = l .before .before .before .before .before in record {
       passed = lies t e;
       few = record { kept = k .take-one .ensures .few .kept; rows = omega (arith, k .take-one .ensures .few .rows) };
-      room = k .take-one .kept .1 .1 .1 .1 .1 .1 .1 .0 ∙ l .loop .inv .room;
+      room = k .take-one .kept .1 .1 .1 .1 .1 .1 .1 .1 .0 ∙ l .loop .inv .room;
       goes = sym (passes (s .args .home) (s .args .base) (s .args .part .now) (l .loop .at) (e .before .before .before .loop-test .taken) (e .before .before .look .ensures .is)
           (whole t e) (lies t e) (k .take-one .ensures) (c .before .if2 .taken)) ∙ l .loop .inv .goes;
     }
 
-read-run-sub-enter-group : (t : ℕ) → read-run-lts.Need-sub-enter-group (read-run-calls t) (read-run-at t) read-run.Post read-run-Inv-loop read-run-μ-loop
-read-run-sub-enter-group t c = omega arith
-
-read-run-part-enter-group-start : (t : ℕ) → read-run-lts.Need-part-enter-group-start (read-run-calls t) (read-run-at t) read-run.Post read-run-Inv-loop read-run-μ-loop
-read-run-part-enter-group-start t c = omega arith
-
-read-run-part-enter-group-end : (t : ℕ) → read-run-lts.Need-part-enter-group-end (read-run-calls t) (read-run-at t) read-run.Post read-run-Inv-loop read-run-μ-loop
-read-run-part-enter-group-end t c = lies t (c .before .before .before .before .before .before .before)
-
 read-run-enter-group-requires : (t : ℕ) → read-run-lts.Need-enter-group-requires (read-run-calls t) (read-run-at t) read-run.Post read-run-Inv-loop read-run-μ-loop
 read-run-enter-group-requires t c κs =
-    let k = c .before .before .before .before .before .before in
-    let e = k .before .before .before in
+    let k = c .before .before .before .before in
+    let e = k .before .before .before .before .before in
     let l = e .before .before .before .before in
     let s = l .before .before .before .before .before in
-    let n = inner-length t k in (
+    let n = read-run-inner-length t k in (
       omega (arith, n, s .pre .0, lies t e),
       record {
         fine = record {
           lent = s .pre .1 .lent;
-          level = inner-low (s .args .kind) (s .args .level) (l .loop .seen) (e .before .before .look .result) (k .take-one .result .inner) (k .take-one .ensures .level);
+          level = inner-low (s .args .kind) (s .args .level) (l .loop .seen) _ (k .take-one .result .inner) (k .take-one .ensures .level);
           home = omega (arith, ends-within t l, lies t e);
           parent = zero≤;
           few = k .take-one .ensures .few;
           ends = omega (arith, n, ends-within t l, lies t e);
         };
-        some = pos-of-ne-zero (c .before .before .if2 .left);
+        some = pos-of-ne-zero (c .before .if2 .left);
       },
     )
 
@@ -219,22 +220,22 @@ read-run-enum-known-q t c = c .match .keys1
 read-run-same-length-2 : (t : ℕ) → read-run-lts.Need-same-length-2 (read-run-calls t) (read-run-at t) read-run.Post read-run-Inv-loop read-run-μ-loop
 read-run-same-length-2 t c =
     let g = c .before .before .before .before .before in
-    let k = g .before .before .before .before .before .before .before in
-    let l = k .before .before .before .before .before .before .before in
-    g .enter-group .kept .1 .1 .1 .1 .1 .0 ∙ k .take-one .kept .1 .1 .1 .1 .1 .1 .1 .0 ∙ l .loop .inv .room
+    let k = g .before .before .before .before .before in
+    let l = k .before .before .before .before .before .before .before .before .before in
+    g .enter-group .kept .1 .1 .1 .1 .1 .0 ∙ k .take-one .kept .1 .1 .1 .1 .1 .1 .1 .1 .0 ∙ l .loop .inv .room
 
 read-run-returns-2 : (t : ℕ) → read-run-lts.Need-returns-2 (read-run-calls t) (read-run-at t) read-run.Post read-run-Inv-loop read-run-μ-loop
 read-run-returns-2 t c =
     let g = c .before .before .before .before .before in
-    let k = g .before .before .before .before .before .before .before in
-    let e = k .before .before .before in
+    let k = g .before .before .before .before .before in
+    let e = k .before .before .before .before .before in
     let l = e .before .before .before .before in
     let s = l .before .before .before .before .before in
     ran-same (l .loop .inv .goes)
     (stops (s .args .home) (s .args .base) (s .args .part .now) (l .loop .at) (e .before .before .before .loop-test .taken) (e .before .before .look .ensures .is)
     (whole t e) (lies t e) (k .take-one .ensures)
     (ran-is (c .before .q .given .1) (g .enter-group .ensures))
-    (omega (arith, inner-length t k, lies t e)))
+    (omega (arith, read-run-inner-length t k, lies t e)))
 
 read-run-enum-known-c : (t : ℕ) → read-run-lts.Need-enum-known-c (read-run-calls t) (read-run-at t) read-run.Post read-run-Inv-loop read-run-μ-loop
 read-run-enum-known-c t c = c .match .keys2
@@ -247,14 +248,14 @@ read-run-loop-less-2 t c =
 read-run-loop-again-2 : (t : ℕ) → read-run-lts.Need-loop-again-2 (read-run-calls t) (read-run-at t) read-run.Post read-run-Inv-loop read-run-μ-loop
 read-run-loop-again-2 t c =
     let g = c .before .before .before .before .before in
-    let k = g .before .before .before .before .before .before .before in
-    let e = k .before .before .before in
+    let k = g .before .before .before .before .before in
+    let e = k .before .before .before .before .before in
     let l = e .before .before .before .before in
     let s = l .before .before .before .before .before in
     let x = ran-is (c .before .c .given .1) (g .enter-group .ensures) in record {
       passed = lies t e;
-      few = record { kept = x .few .kept; rows = omega (arith, inner-length t k, x .few .rows) };
-      room = g .enter-group .kept .1 .1 .1 .1 .1 .0 ∙ k .take-one .kept .1 .1 .1 .1 .1 .1 .1 .0 ∙ l .loop .inv .room;
+      few = record { kept = x .few .kept; rows = omega (arith, read-run-inner-length t k, x .few .rows) };
+      room = g .enter-group .kept .1 .1 .1 .1 .1 .0 ∙ k .take-one .kept .1 .1 .1 .1 .1 .1 .1 .1 .0 ∙ l .loop .inv .room;
       goes = sym (goes-on (s .args .home) (s .args .base) (s .args .part .now) (l .loop .at) (e .before .before .before .loop-test .taken) (e .before .before .look .ensures .is)
           (whole t e) (lies t e) (k .take-one .ensures) x) ∙ l .loop .inv .goes;
     }
@@ -295,14 +296,14 @@ pub +enter-group+read-run-spec : {M : Type 1} → statement M
     (read-run-look-requires t)
     (read-run-same-length t)
     (read-run-returns t)
-    (read-run-take-one-requires t)
     (read-run-add-value t)
     (read-run-add-next t)
+    (read-run-sub-own t)
+    (read-run-part-own-start t)
+    (read-run-part-own-end t)
+    (read-run-take-one-requires t)
     (read-run-loop-less t)
     (read-run-loop-again t)
-    (read-run-sub-enter-group t)
-    (read-run-part-enter-group-start t)
-    (read-run-part-enter-group-end t)
     (read-run-enter-group-requires t)
     (read-run-enum-known-q t)
     (read-run-same-length-2 t)

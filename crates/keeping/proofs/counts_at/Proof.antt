@@ -1,31 +1,43 @@
--- `counts_in` loads four numbers. Assumes nothing.
-use Rattle.keeping.specs.Kept.{countsIn}
+-- `counts_at` loads four numbers. Assumes nothing.
+use Rattle.keeping.specs.Kept.{countsAt}
 use borrow.Author.Needs.{needs}
-use Rattle.keeping.proofs.counts_in.Statement.{statement}
-use Rattle.keeping.proofs.counts_in.Tie as tie
+use Rattle.keeping.proofs.counts_at.Statement.{statement}
+use Rattle.keeping.proofs.counts_at.Tie as tie
 
 number-at-requires : tie.Need-number-at-requires
 number-at-requires c κs = search needs
 
+add-number-at : tie.Need-add-number-at
+add-number-at c = search needs
+
 number-at-requires-2 : tie.Need-number-at-requires-2
 number-at-requires-2 c κs = search needs
 
+add-number-at-2 : tie.Need-add-number-at-2
+add-number-at-2 c = search needs
+
 number-at-requires-3 : tie.Need-number-at-requires-3
 number-at-requires-3 c κs = search needs
+
+add-number-at-3 : tie.Need-add-number-at-3
+add-number-at-3 c = search needs
 
 number-at-requires-4 : tie.Need-number-at-requires-4
 number-at-requires-4 c κs = search needs
 
 returns : tie.Need-returns
-unfolding countsIn
+unfolding countsAt
 returns c = rw (c .before .before .before .number-at .ensures, c .before .before .number-at2 .ensures, c .before .number-at3 .ensures, c .number-at4 .ensures)
 
-pub counts-in-spec : {M : Type 1} → statement M
-counts-in-spec =
+pub counts-at-spec : {M : Type 1} → statement M
+counts-at-spec =
     tie.close
     (tie.spec
     number-at-requires
+    add-number-at
     number-at-requires-2
+    add-number-at-2
     number-at-requires-3
+    add-number-at-3
     number-at-requires-4
     returns)
