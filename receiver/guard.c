@@ -1,5 +1,5 @@
 /*
- * Judge, mask, clean, build and the pieces form on a thread with a small stack, on buffers of exact size that end right before a page that may not be
+ * Judge and copy, clean, build and the pieces form on a thread with a small stack, on buffers of exact size that end right before a page that may not be
  * touched and then on ones that start right after such a page. Run from the folder that holds samples/.
  */
 #define _DEFAULT_SOURCE
@@ -21,15 +21,13 @@
 #define MOST_A_LEVEL 512u
 #define USED 3u /* the header's number that says how many are used */
 
-enum { JUDGE, MASK, CLEAN, BUILD, START, PART, END, FUNCTIONS };
+enum { JUDGE_COPY, CLEAN, BUILD, START, PART, END, FUNCTIONS };
 
-typedef uint16_t function(uint32_t, const uint8_t *, size_t, uint8_t *, size_t, uint8_t *, size_t);
-static function *const functions[BUILD] = {wok_judge, wok_mask, wok_clean};
-static const char *const names[FUNCTIONS] = {"judge", "mask", "clean", "build", "start", "part", "end"};
+static const char *const names[FUNCTIONS] = {"judge and copy", "clean", "build", "start", "part", "end"};
 /* a start answers its code alone */
-static const size_t number_octets[FUNCTIONS] = {WOK_FIVE_OCTETS, WOK_FIVE_OCTETS, WOK_ANSWER_OCTETS, WOK_ANSWER_OCTETS, 0, WOK_FIVE_OCTETS, WOK_FIVE_OCTETS};
+static const size_t number_octets[FUNCTIONS] = {WOK_FIVE_OCTETS, WOK_ANSWER_OCTETS, WOK_ANSWER_OCTETS, 0, WOK_FIVE_OCTETS, WOK_FIVE_OCTETS};
 /* the stack of a call, as the header has it */
-static const size_t said[FUNCTIONS] = {15 * 1024, 15 * 1024, 15 * 1024, 18 * 1024, 15 * 1024, 15 * 1024, 15 * 1024};
+static const size_t said[FUNCTIONS] = {20 * 1024, 15 * 1024, 18 * 1024, 15 * 1024, 15 * 1024, 15 * 1024};
 
 /* What the builder has besides, of the message that it is to make again. */
 struct head {
@@ -38,8 +36,8 @@ struct head {
     size_t table_len;
 };
 
-/* What is lent as the state of a message in parts. */
-struct state {
+/* What is lent as the state of a message in parts, or as the masked copy. */
+struct lent {
     uint8_t *octets;
     size_t len;
 };
@@ -60,9 +58,10 @@ struct call {
     size_t whole;   /* octets of the message that this is about */
 };
 
-static uint8_t *stack, *message_room, *table_room, *out_room, *numbers_room, *state_room;
-static struct head head;   /* of the builder's next call */
-static struct state state; /* of the next call of the pieces form */
+static uint8_t *stack, *message_room, *table_room, *out_room, *copy_room, *numbers_room, *state_room;
+static struct head head;  /* of the builder's next call */
+static struct lent copy;  /* of the next judge and copy, besides the table */
+static struct lent state; /* of the next call of the pieces form */
 static size_t most_used[2][FUNCTIONS], most_written[2][FUNCTIONS]; /* by larger */
 static size_t least_left = STACK_OCTETS;
 static unsigned passed, failed, rebuilt, in_parts;
@@ -95,13 +94,15 @@ static uint8_t *exact(uint8_t *room, size_t len, int at_end) {
 
 static uint16_t called(const struct call *c) {
     switch (c->which) {
+    case JUDGE_COPY:
+        return wok_judge_copy(c->kind, c->message, c->message_len, c->out, c->out_len, copy.octets, copy.len, c->numbers, c->numbers_len);
     case BUILD:
         return wok_build(head.teid, head.sequence, head.table, head.table_len, c->message, c->message_len, c->out, c->out_len, c->numbers,
                          c->numbers_len);
     case START: return wok_start(c->kind, state.octets, state.len, c->out, c->out_len);
     case PART: return wok_part(state.octets, state.len, c->message, c->message_len, c->out, c->out_len, c->numbers, c->numbers_len);
     case END: return wok_end(state.octets, state.len, c->out, c->out_len, c->numbers, c->numbers_len);
-    default: return functions[c->which](c->kind, c->message, c->message_len, c->out, c->out_len, c->numbers, c->numbers_len);
+    default: return wok_clean(c->kind, c->message, c->message_len, c->out, c->out_len, c->numbers, c->numbers_len);
     }
 }
 
@@ -164,14 +165,14 @@ static int rest_stays(const uint8_t *room, const uint8_t *buffer, size_t len) {
     return 1;
 }
 
-/* The code, and what was written: of the table or copy so many octets if it accepts, and the numbers whole or not at all. */
+/* The code, and what was written: of the table, cleaned copy or message so many octets if it accepts, and the numbers whole or not at all. */
 static void check_call(const char *name, const struct call *c, const unsigned five[5], size_t written) {
     size_t len = number_octets[c->which];
     int whole = c->numbers_len >= len, same = c->code == five[0];
     for (size_t i = 0; whole && i < 5; i++) same = same && number(c->numbers, i) == five[i];
     if (whole && len == WOK_ANSWER_OCTETS) same = same && number(c->numbers, 5) == (c->code == WOK_ACCEPTED ? written : 0);
     check(same, name, names[c->which]);
-    check(rest_stays(out_room, c->out, c->code == WOK_ACCEPTED ? written : 0), name, "a write outside the table or copy");
+    check(rest_stays(out_room, c->out, c->code == WOK_ACCEPTED ? written : 0), name, "a write outside the table, cleaned copy or message");
     check(rest_stays(numbers_room, c->numbers, whole ? len : 0), name, "a write outside the numbers answered");
 }
 
@@ -181,24 +182,77 @@ static void try_call(int which, const struct given *g, size_t out_len, const uns
     check_call(g->name, &c, five, written);
 }
 
-static void judge_exact(const struct given *g, const unsigned five[5]) {
-    static const unsigned table_short[5] = {WOK_TABLE_SHORT};
-    struct call c = on_exact(JUDGE, g, WOK_TABLE_OCTETS, WOK_FIVE_OCTETS);
-    check_call(g->name, &c, five, WOK_TABLE_OCTETS);
-    if (c.code != WOK_ACCEPTED) return;
-    size_t used = 2 * number(c.out, USED);
-    check(used == 2 * (WOK_HEADER_NUMBERS + WOK_ROW_NUMBERS * number(c.out, 0)), g->name, "numbers used do not match the rows");
-    check(rest_stays(out_room, c.out, used), g->name, "a write past the numbers used");
-    if (used > WOK_TABLE_OCTETS) return;
-    try_call(JUDGE, g, used, five, used);
-    try_call(JUDGE, g, used - 1, table_short, 0);
+/* Judge and copy with a table and a copy of these lengths, each at the edge of its own page. */
+static struct call judge_copy_exact(const struct given *g, size_t table_len, size_t copy_len, size_t numbers_len) {
+    copy = (struct lent){exact(copy_room, copy_len, g->at_end), copy_len};
+    memset(copy_room, PATTERN, ROOM);
+    return on_exact(JUDGE_COPY, g, table_len, numbers_len);
 }
 
-static void mask_exact(const struct given *g, const unsigned five[5]) {
-    static const unsigned accepted[5], copy_short[5] = {WOK_COPY_SHORT};
-    int copied = five[0] == WOK_ACCEPTED || five[0] >= WOK_TABLE_SHORT;
-    try_call(MASK, g, g->len, copied ? accepted : five, g->len);
-    if (copied) try_call(MASK, g, g->len - 1, copy_short, 0);
+/* The same with room enough for any table and for the copy. */
+static struct call judge_exact(const struct given *g, size_t table_len) {
+    return judge_copy_exact(g, table_len, g->len, WOK_FIVE_OCTETS);
+}
+
+/* The five with these lengths, by the order of the refusals, from those with room enough: 1 to 9, then 13, then 10. `used` is what the rows need. */
+static const unsigned *in_order(const struct given *g, const unsigned five[5], size_t table_len, size_t copy_len, size_t used) {
+    static const unsigned table_short[5] = {WOK_TABLE_SHORT}, copy_short[5] = {WOK_COPY_SHORT};
+    if (five[0] >= WOK_UNKNOWN_KIND && five[0] <= WOK_BAD_FRAMING) return five;
+    if (copy_len < g->len) return copy_short;
+    return table_len < used ? table_short : five;
+}
+
+/* Is each octet the message's own or zero, and the header's eight its own? Then a copy was made. */
+static int is_masked(const struct given *g, const uint8_t *masked) {
+    for (size_t at = 0; at < g->len; at++)
+        if (masked[at] != g->message[at] && (masked[at] != 0 || at < 8)) return 0;
+    return 1;
+}
+
+/* Table and copy as a call with room enough left them; with 11 and 12 the former stays. */
+static uint8_t whole_table[WOK_TABLE_OCTETS], whole_copy[WOK_LARGEST_MESSAGE];
+
+/* One call with these lengths: the verdict, and what of both buffers was written. */
+static void try_lengths(const struct given *g, const unsigned five[5], size_t table_len, size_t copy_len, size_t numbers_len, size_t used) {
+    struct call c = judge_copy_exact(g, table_len, copy_len, numbers_len);
+    const unsigned *expected = in_order(g, five, table_len, copy_len, used);
+    int copied = expected[0] == WOK_ACCEPTED || expected[0] == WOK_MANDATORY_SHORT || expected[0] == WOK_MANDATORY_MISSING;
+    check_call(g->name, &c, expected, used);
+    check(rest_stays(copy_room, copy.octets, copied ? g->len : 0), g->name, "a write outside the masked copy");
+    if (c.code == WOK_ACCEPTED) check(memcmp(c.out, whole_table, used) == 0, g->name, "another table in a buffer of another length");
+    if (!copied) return;
+    check(is_masked(g, copy.octets), g->name, "no masked copy");
+    check(memcmp(copy.octets, whole_copy, g->len) == 0, g->name, "another masked copy in a buffer of another length");
+}
+
+/* How many octets of a table the rows need, found by lending ever longer ones where 11 or 12 leave none; the header's of a message that 1 to 9 refuse. */
+static size_t table_octets(const struct given *g, const struct call *c) {
+    if (c->code == WOK_ACCEPTED) return 2 * number(c->out, USED);
+    size_t used = 2 * WOK_HEADER_NUMBERS;
+    if (c->code != WOK_MANDATORY_SHORT && c->code != WOK_MANDATORY_MISSING) return used;
+    while (used < WOK_TABLE_OCTETS && judge_exact(g, used).code == WOK_TABLE_SHORT) used += 2 * WOK_ROW_NUMBERS;
+    return used;
+}
+
+/* Tables and copies around what they must hold, each length with each, and the five numbers in buffers around 10 octets. */
+static void lengths_exact(const struct given *g, const unsigned five[5]) {
+    static const size_t numbers_lens[] = {WOK_FIVE_OCTETS, 0, WOK_FIVE_OCTETS - 1, WOK_FIVE_OCTETS + 1};
+    struct call c = judge_exact(g, WOK_TABLE_OCTETS);
+    check_call(g->name, &c, five, WOK_TABLE_OCTETS);
+    memcpy(whole_table, c.out, sizeof whole_table);
+    if (g->len <= sizeof whole_copy) memcpy(whole_copy, copy.octets, g->len);
+    size_t used = table_octets(g, &c), turn = 0;
+    if (c.code == WOK_ACCEPTED) {
+        check(used == 2 * (WOK_HEADER_NUMBERS + WOK_ROW_NUMBERS * number(c.out, 0)), g->name, "numbers used do not match the rows");
+        check(rest_stays(out_room, c.out, used), g->name, "a write past the numbers used");
+    }
+    if (used > WOK_TABLE_OCTETS) return;
+    const size_t tables[] = {0, used - 2, used - 1, used, used + 1, used + 2}, copies[] = {0, g->len - (g->len != 0), g->len, g->len + 1};
+    for (size_t t = 0; t < sizeof tables / sizeof tables[0]; t++)
+        for (size_t k = 0; k < sizeof copies / sizeof copies[0]; k++) {
+            try_lengths(g, five, tables[t], copies[k], WOK_FIVE_OCTETS, used);
+            try_lengths(g, five, tables[t], copies[k], numbers_lens[turn++ % 3 + 1], used);
+        }
 }
 
 /* Answer buffers around 12 octets: too short for the numbers, they stay, and the copy or message is made all the same. */
@@ -210,7 +264,7 @@ static void answers_around(int which, const struct given *g, const unsigned five
     }
 }
 
-/* The cleaner refuses as the judge does with the largest table. Else its copy goes into a buffer of its own length, and of no shorter one. */
+/* The cleaner refuses as the judge does with room enough. Else its copy goes into a buffer of its own length, and of no shorter one. */
 static void clean_exact(const struct given *g, const unsigned five[5]) {
     static const unsigned copy_short[5] = {WOK_COPY_SHORT};
     static uint8_t first[WOK_LARGEST_MESSAGE];
@@ -260,7 +314,7 @@ static void take_head(const struct given *g, const uint8_t *table, size_t len) {
 static void build_exact(const struct given *g, const unsigned five[5]) {
     static const unsigned no_table[5] = {WOK_NO_TABLE}, too_large[5] = {WOK_TOO_LARGE};
     static uint8_t table[WOK_TABLE_OCTETS];
-    struct call c = on_exact(JUDGE, g, WOK_TABLE_OCTETS, WOK_FIVE_OCTETS);
+    struct call c = judge_exact(g, WOK_TABLE_OCTETS);
     if (c.code != WOK_ACCEPTED) return;
     size_t used = 2 * number(c.out, USED);
     memcpy(table, c.out, used);
@@ -327,7 +381,7 @@ static int both_stay(void) {
 /* A call that is not taken: state and table stay, whatever was lent. */
 static void try_not_taken(int which, const struct given *g, size_t len, size_t table_len, size_t state_len, const char *what) {
     static const unsigned not_taken[5] = {WOK_NOT_TAKEN};
-    struct state own = state;
+    struct lent own = state;
     keep_both();
     state.len = state_len;
     struct call c = in_feed(which, g, 0, len, table_len);
@@ -346,14 +400,14 @@ static void feed_exact(const struct given *g, size_t table_len, size_t state_len
     static const unsigned zeros[5];
     static uint8_t expected[WOK_TABLE_OCTETS];
     unsigned five[5];
-    struct call c = on_exact(JUDGE, g, table_len, WOK_FIVE_OCTETS);
+    struct call c = judge_exact(g, table_len);
     for (size_t i = 0; i < 5; i++) five[i] = number(c.numbers, i);
     memset(expected, 0, sizeof expected);
     if (c.code == WOK_ACCEPTED) memcpy(expected, c.out, 2 * number(c.out, USED));
 
     memset(out_room, PATTERN, ROOM);
     memset(state_room, PATTERN, ROOM);
-    state = (struct state){exact(state_room, state_len, g->at_end), state_len};
+    state = (struct lent){exact(state_room, state_len, g->at_end), state_len};
     try_not_taken(START, g, 0, table_len, WOK_STATE_OCTETS - 1, "a start with a state that is too short");
     c = in_feed(START, g, 0, 0, table_len);
     check_feed(g->name, &c, zeros);
@@ -378,7 +432,7 @@ static void feed_exact(const struct given *g, size_t table_len, size_t state_len
 
 /* With the largest table, one that just holds the rows, and one octet less; where it is refused, with hardly any. */
 static void pieces_exact(const struct given *g) {
-    struct call c = on_exact(JUDGE, g, WOK_TABLE_OCTETS, WOK_FIVE_OCTETS);
+    struct call c = judge_exact(g, WOK_TABLE_OCTETS);
     size_t used = c.code == WOK_ACCEPTED ? 2 * number(c.out, USED) : 2;
     feed_exact(g, WOK_TABLE_OCTETS, WOK_STATE_OCTETS);
     feed_exact(g, used, WOK_STATE_OCTETS);
@@ -388,8 +442,7 @@ static void pieces_exact(const struct given *g) {
 static void try_message(const char *name, uint32_t kind, const uint8_t *message, size_t len, const unsigned five[5]) {
     for (int at_end = 1; at_end >= 0; at_end--) {
         struct given g = {name, kind, message, len, at_end};
-        judge_exact(&g, five);
-        mask_exact(&g, five);
+        lengths_exact(&g, five);
         clean_exact(&g, five);
         build_exact(&g, five);
         pieces_exact(&g);
@@ -487,13 +540,19 @@ static void try_null(int which, const uint8_t *message, size_t len, int has_out,
 /* A NULL with length 0 for each pointer in turn, on a good message. */
 static void try_nulls(void) {
     static const uint8_t echo[] = {0x40, 1, 0, 9, 0, 0, 1, 0, 3, 0, 1, 0, 7};
-    static const uint16_t out_short[BUILD] = {WOK_TABLE_SHORT, WOK_COPY_SHORT, WOK_COPY_SHORT};
-    for (int which = 0; which < BUILD; which++) {
-        try_null(which, NULL, 0, 1, 1, WOK_BAD_SIZE, "NULL for the message");
-        try_null(which, echo, sizeof echo, 0, 1, out_short[which], "NULL for the table or copy");
-        try_null(which, echo, sizeof echo, 1, 0, WOK_ACCEPTED, "NULL for the numbers");
-        try_null(which, NULL, 0, 0, 0, WOK_BAD_SIZE, "NULL for all");
-    }
+    static uint8_t own[sizeof echo];
+    copy = (struct lent){own, sizeof own};
+    try_null(JUDGE_COPY, NULL, 0, 1, 1, WOK_BAD_SIZE, "NULL for the message");
+    try_null(JUDGE_COPY, echo, sizeof echo, 0, 1, WOK_TABLE_SHORT, "NULL for the table");
+    try_null(JUDGE_COPY, echo, sizeof echo, 1, 0, WOK_ACCEPTED, "NULL for the numbers");
+    copy = (struct lent){NULL, 0};
+    try_null(JUDGE_COPY, echo, sizeof echo, 1, 1, WOK_COPY_SHORT, "NULL for the copy");
+    try_null(JUDGE_COPY, echo, sizeof echo, 0, 1, WOK_COPY_SHORT, "NULL for table and copy");
+    try_null(JUDGE_COPY, NULL, 0, 0, 0, WOK_BAD_SIZE, "NULL for all");
+    try_null(CLEAN, NULL, 0, 1, 1, WOK_BAD_SIZE, "NULL for the message");
+    try_null(CLEAN, echo, sizeof echo, 0, 1, WOK_COPY_SHORT, "NULL for the copy");
+    try_null(CLEAN, echo, sizeof echo, 1, 0, WOK_ACCEPTED, "NULL for the numbers");
+    try_null(CLEAN, NULL, 0, 0, 0, WOK_BAD_SIZE, "NULL for all");
     static const uint8_t table[] = {0, 1, 0, 1, 0, 6, 0, 12, 0, 1, 0, 1, 0, 0, 0, 3, 0, 0, 0, 12, 0, 1, 0, 0};
     head = (struct head){0, 1, table, sizeof table};
     try_null(BUILD, NULL, 0, 1, 1, WOK_NO_TABLE, "NULL for the values");
@@ -535,7 +594,7 @@ static void try_rubbish(void) {
         size_t table_len = some(90), len = some(sizeof message + 1);
         memset(out_room, PATTERN, ROOM);
         memset(state_room, PATTERN, ROOM);
-        state = (struct state){exact(state_room, WOK_STATE_OCTETS, g.at_end), WOK_STATE_OCTETS};
+        state = (struct lent){exact(state_room, WOK_STATE_OCTETS, g.at_end), WOK_STATE_OCTETS};
         for (size_t i = 0; i < WOK_STATE_OCTETS; i++) state.octets[i] = (uint8_t)some(256);
         if (turn & 2) {
             (void)in_feed(START, &g, 0, 0, table_len);
@@ -554,10 +613,9 @@ static void try_rubbish(void) {
 static size_t level_octets(int which) {
     static const uint8_t without[] = {0x48, 66, 0, 8, 0, 0, 0, 1, 0, 0, 2, 0};
     static const uint8_t with[] = {0x48, 66, 0, 17, 0, 0, 0, 1, 0, 0, 2, 0, 93, 0, 5, 0, 73, 0, 1, 0, 5};
-    size_t out_len = which == JUDGE ? WOK_TABLE_OCTETS : sizeof with;
     struct given one = {"without", WOK_KIND_S11, without, sizeof without, 1}, two = {"with", WOK_KIND_S11, with, sizeof with, 1};
-    size_t less = on_exact(which, &one, out_len, number_octets[which]).used;
-    size_t more = on_exact(which, &two, out_len, number_octets[which]).used;
+    size_t less = which == JUDGE_COPY ? judge_exact(&one, WOK_TABLE_OCTETS).used : on_exact(which, &one, sizeof with, number_octets[which]).used;
+    size_t more = which == JUDGE_COPY ? judge_exact(&two, WOK_TABLE_OCTETS).used : on_exact(which, &two, sizeof with, number_octets[which]).used;
     check(less < more && more - less <= MOST_A_LEVEL, names[which], "a level takes nothing, or too much");
     return more - less;
 }
@@ -574,6 +632,7 @@ int main(void) {
     message_room = guarded(ROOM);
     table_room = guarded(ROOM);
     out_room = guarded(ROOM);
+    copy_room = guarded(ROOM);
     numbers_room = guarded(ROOM);
     state_room = guarded(ROOM);
     unsigned samples = try_samples();
@@ -590,8 +649,8 @@ int main(void) {
     printf("%u samples, %u times built again, %u times in parts\n", samples, rebuilt, in_parts);
     print_stack(0, "messages of up to 264 octets");
     print_stack(1, "larger messages");
-    printf("stack: a level of the listings takes %zu octets in judge, ", level_octets(JUDGE));
-    printf("%zu in mask, %zu in clean\n", level_octets(MASK), level_octets(CLEAN));
+    printf("stack: a level of the listings takes %zu octets in judge and copy, ", level_octets(JUDGE_COPY));
+    printf("%zu in clean\n", level_octets(CLEAN));
     printf("stack: %zu of %u octets never written\n", least_left, STACK_OCTETS);
     printf("%u passed, %u failed\n", passed, failed);
     return failed != 0;

@@ -5,13 +5,14 @@
  *   gcc -std=c99 -O2 -Iinclude -o receiver receiver/receiver.c target/staticlib/libwokshimmer.a target/staticlib/libwokpieces.a -lpthread
  *
  * One port a kind, S11, S4 and S5/S8; 0, and no ports at all, let the system choose. The first line names the ports. Every datagram is
- * judged, masked and cleaned; a line of counts comes every second and, on SIGTERM or SIGINT, a last one:
- *   counts|total datagrams N judge (by code, 0 to 13) mask (by code, 0 to 13) clean (by code, 0 to 13)
- *   copy (octets of the last masked copy) cleaned (octets of the last cleaned copy)
+ * judged and copied in one call, and cleaned; a line of counts comes every second and, on SIGTERM or SIGINT, a last one:
+ *   counts|total datagrams N judge (by code, 0 to 13) clean (by code, 0 to 13)
+ *   copies (masked copies made: with 0, 11 and 12) copy (octets of the last one) cleaned (octets of the last cleaned copy)
+ *   unlike (datagrams judged otherwise in parts than whole)
  *   dropped (datagrams that came and found the socket's buffer full)
- * With --answer each datagram is answered by the five numbers of the judge and of the mask, and by the cleaner's six. This is for tests,
- * so the receiver then listens on loopback only.
- * With --parts a datagram is received into several small buffers and judged in these parts; answers and counts are the same.
+ * With --answer each datagram is answered by the five numbers of the judge and by the cleaner's six. This is for tests, so the receiver then listens on
+ * loopback only.
+ * With --parts a datagram is received into several small buffers and judged in these parts first; answers and counts are the same.
  */
 #define _GNU_SOURCE
 
@@ -41,8 +42,9 @@
 struct counts {
     unsigned long datagrams;
     unsigned long judge[CODES];
-    unsigned long mask[CODES];
     unsigned long clean[CODES];
+    unsigned long copies;
+    unsigned long unlike;
     size_t copy_len;
     size_t cleaned_len;
 };
@@ -50,18 +52,18 @@ struct counts {
 /* One octet more than the largest message: a longer datagram, cut to this, is still refused for its size. */
 static uint8_t message[WOK_LARGEST_MESSAGE + 1];
 static uint8_t table[WOK_TABLE_OCTETS];
-/* A refused message leaves both copies as they were, so each is always the last one made. */
+/* A call that makes no copy leaves its buffer as it was, so each is always the last one made. */
 static uint8_t copy[WOK_LARGEST_MESSAGE];
 static uint8_t cleaned[WOK_LARGEST_MESSAGE];
-/* What each of the three answers, one after the other. */
-static uint8_t answer[2 * WOK_FIVE_OCTETS + WOK_ANSWER_OCTETS];
-static uint8_t *const mask_five = answer + WOK_FIVE_OCTETS;
-static uint8_t *const clean_answer = answer + 2 * WOK_FIVE_OCTETS;
+/* What both answer, one after the other. */
+static uint8_t answer[WOK_FIVE_OCTETS + WOK_ANSWER_OCTETS];
+static uint8_t *const clean_answer = answer + WOK_FIVE_OCTETS;
 
 /* The buffers of --parts: of odd sizes, two of them one octet, and together as long as message. */
 static const size_t part_sizes[PARTS] = {1, 3, 4, 9, 1, 64, 331, 1500, LARGEST_PART};
 static uint8_t parts[PARTS][LARGEST_PART];
 static uint8_t state[WOK_STATE_OCTETS];
+static uint8_t parts_five[WOK_FIVE_OCTETS];
 
 static int answers, in_parts;
 static struct pollfd ports[KINDS];
@@ -82,13 +84,21 @@ static size_t clean_len(void) {
     return len[0] * 256u + len[1];
 }
 
-static void count(uint16_t judged, uint16_t masked, uint16_t clean, size_t message_len) {
+/* The refusals of judge and copy that leave a copy, and acceptance. */
+static int is_copied(uint16_t code) {
+    return code == WOK_ACCEPTED || code == WOK_MANDATORY_SHORT || code == WOK_MANDATORY_MISSING;
+}
+
+static void count(uint16_t judged, uint16_t clean, int unlike, size_t message_len) {
     pthread_mutex_lock(&lock);
     counts.datagrams++;
     if (judged < CODES) counts.judge[judged]++;
-    if (masked < CODES) counts.mask[masked]++;
     if (clean < CODES) counts.clean[clean]++;
-    if (masked == WOK_ACCEPTED) counts.copy_len = message_len;
+    if (unlike) counts.unlike++;
+    if (is_copied(judged)) {
+        counts.copies++;
+        counts.copy_len = message_len;
+    }
     if (clean == WOK_ACCEPTED) counts.cleaned_len = clean_len();
     pthread_mutex_unlock(&lock);
 }
@@ -114,17 +124,17 @@ static ssize_t receive_parts(int port, struct sockaddr_in *sender, socklen_t *se
 }
 
 /* Judges what the small buffers hold, one after the other; those past the datagram's end are empty parts. */
-static uint16_t judge_parts(uint32_t kind, size_t len) {
+static void judge_parts(uint32_t kind, size_t len) {
     uint16_t code = wok_start(kind, state, sizeof state, table, sizeof table);
     for (int i = 0; code == WOK_ACCEPTED && i < PARTS; i++) {
         size_t own = part_len(i, len);
-        code = wok_part(state, sizeof state, parts[i], own, table, sizeof table, answer, WOK_FIVE_OCTETS);
+        code = wok_part(state, sizeof state, parts[i], own, table, sizeof table, parts_five, sizeof parts_five);
         len -= own;
     }
-    return code == WOK_ACCEPTED ? wok_end(state, sizeof state, table, sizeof table, answer, WOK_FIVE_OCTETS) : code;
+    if (code == WOK_ACCEPTED) (void)wok_end(state, sizeof state, table, sizeof table, parts_five, sizeof parts_five);
 }
 
-/* The small buffers one behind the other, for mask and clean, which want a message whole. */
+/* The small buffers one behind the other, for the copies, which want a message whole. */
 static void join_parts(size_t len) {
     uint8_t *to = message;
     for (int i = 0; i < PARTS; i++) {
@@ -142,11 +152,13 @@ static void take(int port, uint32_t kind) {
                                 : recvfrom(port, message, sizeof message, MSG_DONTWAIT, (struct sockaddr *)&sender, &sender_len);
     if (received < 0) return; /* such as a datagram with a bad checksum */
     size_t len = (size_t)received;
-    uint16_t judged = in_parts ? judge_parts(kind, len) : wok_judge(kind, message, len, table, sizeof table, answer, WOK_FIVE_OCTETS);
-    if (in_parts) join_parts(len);
-    uint16_t masked = wok_mask(kind, message, len, copy, sizeof copy, mask_five, WOK_FIVE_OCTETS);
+    if (in_parts) {
+        judge_parts(kind, len);
+        join_parts(len);
+    }
+    uint16_t judged = wok_judge_copy(kind, message, len, table, sizeof table, copy, sizeof copy, answer, WOK_FIVE_OCTETS);
     uint16_t clean = wok_clean(kind, message, len, cleaned, sizeof cleaned, clean_answer, WOK_ANSWER_OCTETS);
-    count(judged, masked, clean, len);
+    count(judged, clean, in_parts && memcmp(answer, parts_five, WOK_FIVE_OCTETS) != 0, len);
     /* An answer that cannot be sent is the sender's loss. */
     if (answers) (void)sendto(port, answer, sizeof answer, MSG_DONTWAIT, (struct sockaddr *)&sender, sender_len);
 }
@@ -188,11 +200,11 @@ static void print_counts(const char *name) {
     pthread_mutex_unlock(&lock);
     printf("%s datagrams %lu", name, now.datagrams);
     print_codes("judge", now.judge);
-    print_codes("mask", now.mask);
     print_codes("clean", now.clean);
     unsigned long lost = 0;
     for (int i = 0; i < KINDS; i++) lost += dropped(ports[i].fd);
-    printf(" copy %lu cleaned %lu dropped %lu\n", (unsigned long)now.copy_len, (unsigned long)now.cleaned_len, lost);
+    printf(" copies %lu copy %lu cleaned %lu unlike %lu dropped %lu\n", now.copies, (unsigned long)now.copy_len, (unsigned long)now.cleaned_len,
+           now.unlike, lost);
     fflush(stdout);
 }
 

@@ -10,13 +10,13 @@ pub fn text(library: &mut Library, right: bool, kind: &str, message: &[u8]) -> O
     let view = View::of(library, right, message);
     let seen = view.seen?;
     let judged = library.read(&seen)?;
-    let edit = Edit { library, right, seen, judged };
+    let mut edit = Edit { library, right, seen, judged };
     let (rows, covered) = edit.rows();
     Some(edit.notes(&view.sentence, covered) + &edit.fields(kind) + "\n" + &rows)
 }
 
 struct Edit<'a> {
-    library: &'a Library,
+    library: &'a mut Library,
     right: bool,
     seen: Vec<u8>,
     judged: Judged,
@@ -67,9 +67,9 @@ impl Edit<'_> {
     }
 
     /// The lines of the rows, and whether something in them is covered.
-    fn rows(&self) -> (String, bool) {
+    fn rows(&mut self) -> (String, bool) {
         let (mut out, mut any, mut levels) = (self.missing(0, 0), false, vec![]);
-        for row in &self.judged.rows {
+        for row in &self.judged.rows.clone() {
             let level = usize::from(row[0]).checked_sub(1).map_or(0, |parent| levels[parent] + 1);
             let (said, covered) = self.row(row, level);
             out += &said;
@@ -81,7 +81,7 @@ impl Edit<'_> {
     }
 
     /// The line of a row, which is a comment if the row is left out; and whether something in it is covered.
-    fn row(&self, row: &Row, level: usize) -> (String, bool) {
+    fn row(&mut self, row: &Row, level: usize) -> (String, bool) {
         let &[_, typ, instance, place, length, standing] = row;
         let (typ, place, length) = (typ as u8, usize::from(place), usize::from(length));
         let value = (!build::is_group(typ)).then(|| &self.seen[place..place + length]);

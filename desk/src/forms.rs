@@ -87,7 +87,6 @@ pub struct View {
     pub name: String,
     pub sentence: String,
     octets: usize,
-    copy: Option<Vec<u8>>,
     pub seen: Option<Vec<u8>>,
 }
 
@@ -96,16 +95,14 @@ impl View {
         let judged = library.judge(message);
         let (name, sentence) = words(library.show(right, false, message));
         let (name, sentence) = (name.to_owned(), sentence.to_owned());
-        let mut copy = vec![0; message.len()];
-        let copy = library.mask(message, &mut copy).is_ok().then_some(copy);
-        let seen = if right && copy.is_some() { Some(message.to_vec()) } else { copy.clone() };
-        View { judged, name, sentence, octets: message.len(), copy, seen }
+        let seen = if right && judged.copy.is_some() { Some(message.to_vec()) } else { judged.copy.clone() };
+        View { judged, name, sentence, octets: message.len(), seen }
     }
 
     /// A row's value in hex, and how many octets at its end are covered. A group that has rows has no value of its own: they have it. Of a void group
     /// the values inside are covered, and nothing is shown without the right.
-    fn value(&self, library: &Library, right: bool, row: usize) -> (Option<String>, usize) {
-        let (Some(copy), Some(seen)) = (&self.copy, &self.seen) else { return (None, 0) };
+    fn value(&self, library: &mut Library, right: bool, row: usize) -> (Option<String>, usize) {
+        let (Some(copy), Some(seen)) = (&self.judged.copy, &self.seen) else { return (None, 0) };
         if self.judged.rows.get(row + 1).is_some_and(|next| next[0] as usize == row + 1) {
             return (None, 0);
         }
@@ -173,7 +170,7 @@ fn header_of(seen: &[u8]) -> String {
 }
 
 /// One object, on a line.
-pub fn json(library: &Library, right: bool, origin: &Origin, view: &View) -> String {
+pub fn json(library: &mut Library, right: bool, origin: &Origin, view: &View) -> String {
     let mut out = format!(r#"{{"file":{},"message":{},"kind":{}"#, quoted(origin.file), origin.number, quoted(origin.kind));
     if let Some(m) = origin.packet {
         let (from, to) = peers(m);
@@ -221,7 +218,7 @@ fn cell(text: &str) -> String {
 }
 
 /// A line a row; one line with no row if there is none.
-pub fn csv(library: &Library, right: bool, origin: &Origin, view: &View) -> String {
+pub fn csv(library: &mut Library, right: bool, origin: &Origin, view: &View) -> String {
     let (mut when, mut from, mut to) = (String::new(), String::new(), String::new());
     if let Some(m) = origin.packet {
         when = time(m.seconds, m.nanoseconds);

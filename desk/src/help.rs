@@ -43,7 +43,8 @@ or 'refuse CODE CAUSE PLACE TYPE INSTANCE'.
 pub const MASK: &str = "\
 usage: wok mask [--hex] [-o OUT] [--message N] [--port N] KIND FILE
 
-A copy in which all that the rules cover is zero, for people outside; to standard output, or to OUT.
+A copy in which all that the rules cover is zero, for people outside; to standard output, or to OUT. A message that is refused by 11 or 12 has one too;
+one that is refused by 1 to 9 has none, and cannot be masked.
 A capture gives a capture: the same packets with masked messages, times and addresses kept. Packets with no message, fragments, and
 messages that cannot be masked are left out; the latter are listed with the reason, and the exit status is 1.
   --hex   as hex text that text2pcap reads

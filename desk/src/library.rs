@@ -4,14 +4,25 @@ use crate::page;
 use std::os::raw::c_uint;
 
 extern "C" {
-    fn wok_judge(kind: c_uint, message: *const u8, len: usize, table: *mut u8, table_len: usize, five: *mut u8, five_len: usize) -> u16;
-    fn wok_mask(kind: c_uint, message: *const u8, len: usize, copy: *mut u8, copy_len: usize, five: *mut u8, five_len: usize) -> u16;
+    fn wok_judge_copy(
+        kind: c_uint,
+        message: *const u8,
+        len: usize,
+        table: *mut u8,
+        table_len: usize,
+        copy: *mut u8,
+        copy_len: usize,
+        five: *mut u8,
+        five_len: usize,
+    ) -> u16;
     fn wok_show(kind: c_uint, right: u8, full: u8, message: *const u8, len: usize, page: *mut u8, page_len: usize) -> usize;
     fn wok_name(what: u8, number: u8, name: *mut u8, name_len: usize) -> usize;
 }
 
 /// A table with room for 1,022 rows.
 const TABLE: usize = 12276;
+/// A copy of the largest message fits.
+const COPY: usize = 4096;
 /// A page on any message fits, with values cut.
 const PAGE: usize = 163840;
 
@@ -24,17 +35,19 @@ pub const VOID: u16 = 4;
 /// The five numbers: code, cause, place, type, instance.
 pub type Five = [u16; 5];
 
-/// The judge's answer; rows and kept rows of an accepted message.
+/// The judge's answer; rows and kept rows of an accepted message; the masked copy of one that passes checks 1 to 9.
 pub struct Judged {
     pub five: Five,
     pub rows: Vec<Row>,
     pub kept: u16,
+    pub copy: Option<Vec<u8>>,
 }
 
 /// Buffers that are lent to the library again and again.
 pub struct Library {
     kind: c_uint,
     table: Vec<u8>,
+    copy: Vec<u8>,
     page: Vec<u8>,
 }
 
@@ -55,20 +68,22 @@ fn named(what: u8, number: u8) -> String {
 
 impl Library {
     pub fn new(kind: u32) -> Library {
-        Library { kind, table: vec![0; TABLE], page: vec![0; PAGE] }
+        Library { kind, table: vec![0; TABLE], copy: vec![0; COPY], page: vec![0; PAGE] }
     }
 
+    /// Verdict, table and masked copy, all from one call. The buffers are large enough for any message, so that 10 and 13 are never the answer.
     pub fn judge(&mut self, message: &[u8]) -> Judged {
         let mut five = [0u8; 10];
+        let Library { kind, table, copy, .. } = self;
         // SAFETY: each pointer is valid for the length beside it, and the buffers overlap nothing.
-        unsafe { wok_judge(self.kind, message.as_ptr(), message.len(), self.table.as_mut_ptr(), TABLE, five.as_mut_ptr(), 10) };
+        unsafe { wok_judge_copy(*kind, message.as_ptr(), message.len(), table.as_mut_ptr(), TABLE, copy.as_mut_ptr(), COPY, five.as_mut_ptr(), 10) };
         let five = numbers(&five);
+        let copied = matches!(five[0], 0 | 11 | 12).then(|| copy[..message.len()].to_vec());
         if five[0] != 0 {
-            return Judged { five, rows: vec![], kept: 0 };
+            return Judged { five, rows: vec![], kept: 0, copy: copied };
         }
-        let table = &self.table;
         let row = |i: usize| std::array::from_fn(|j| number(table, 6 + 6 * i + j));
-        Judged { five, rows: (0..number(table, 0) as usize).map(row).collect(), kept: number(table, 1) }
+        Judged { five, rows: (0..number(table, 0) as usize).map(row).collect(), kept: number(table, 1), copy: copied }
     }
 
     /// The same with the rows of every message that passes checks 1 to 9, since 11 and 12 leave no table; none of any other.
@@ -93,16 +108,9 @@ impl Library {
         }
     }
 
-    /// The masked copy over `copy`, which is as long as the message; or the five numbers of the refusal.
-    pub fn mask(&self, message: &[u8], copy: &mut [u8]) -> Result<(), Five> {
-        let mut five = [0u8; 10];
-        // SAFETY: as above.
-        let code = unsafe { wok_mask(self.kind, message.as_ptr(), message.len(), copy.as_mut_ptr(), copy.len(), five.as_mut_ptr(), 10) };
-        if code == 0 {
-            Ok(())
-        } else {
-            Err(numbers(&five))
-        }
+    /// The masked copy, which 11 and 12 leave too.
+    pub fn mask(&mut self, message: &[u8]) -> Option<Vec<u8>> {
+        self.judge(message).copy
     }
 
     /// The message in words, with the subscriber's values for a viewer with the right, and with whole values if they are asked for.
@@ -135,14 +143,13 @@ impl Library {
         named(1, typ)
     }
 
-    /// How many octets of a value, from its end, are covered; found by asking the masker about a copy with other octets there.
-    pub fn covered(&self, copy: &[u8], place: usize, length: usize) -> usize {
+    /// How many octets of a value, from its end, are covered; found by asking for the copy of one with other octets there.
+    pub fn covered(&mut self, copy: &[u8], place: usize, length: usize) -> usize {
         let end = place + length;
-        let hidden = |from: usize, to: usize| {
+        let mut hidden = |from: usize, to: usize| {
             let mut other = copy.to_vec();
             other[from..to].fill(0xff);
-            let mut masked = vec![0; other.len()];
-            self.mask(&other, &mut masked).is_ok() && masked[from..to].iter().all(|&o| o == 0)
+            self.mask(&other).is_some_and(|masked| masked[from..to].iter().all(|&o| o == 0))
         };
         if length == 0 || end > copy.len() {
             return 0;

@@ -189,9 +189,9 @@ impl Job {
             self.refused();
         }
         let text = if self.args.form == Form::Json {
-            forms::json(&self.library, right, origin, &view)
+            forms::json(&mut self.library, right, origin, &view)
         } else {
-            forms::csv(&self.library, right, origin, &view)
+            forms::csv(&mut self.library, right, origin, &view)
         };
         self.out.extend(text.bytes());
     }
@@ -219,9 +219,7 @@ impl Job {
             self.unchanged.count(message, &copy);
             return Some(copy);
         }
-        let mut copy = vec![0; message.len()];
-        self.library.mask(message, &mut copy).ok()?;
-        Some(copy)
+        self.library.mask(message)
     }
 
     fn copy(&mut self, origin: &Origin, message: &[u8]) {

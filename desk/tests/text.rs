@@ -110,8 +110,7 @@ fn what_edit_writes_is_read_as_the_same_rows() {
 fn what_is_built_again_is_the_cleaned_copy() {
     let (mut built, mut refused) = (0, 0);
     for (kind, message) in messages(30) {
-        let mut masked = vec![0; message.len()];
-        Library::new(kind).mask(&message, &mut masked).unwrap();
+        let masked = Library::new(kind).mask(&message).unwrap();
         for (right, seen) in [(true, &message), (false, &masked)] {
             match (build::message(&written(right, kind, &message)), clean::cleaned(kind, seen)) {
                 (Ok(message), Ok(copy)) => {

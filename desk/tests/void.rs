@@ -27,7 +27,7 @@ const ORIGIN: Origin = Origin { file: "f", kind: "S11", number: 1, packet: None 
 fn json(right: bool, message: &[u8]) -> String {
     let mut library = Library::new(1);
     let view = View::of(&mut library, right, message);
-    forms::json(&library, right, &ORIGIN, &view)
+    forms::json(&mut library, right, &ORIGIN, &view)
 }
 
 #[test]
@@ -58,7 +58,7 @@ fn its_inside_is_for_the_right() {
     assert!(row(true).contains("\"value\":\"b700040000") && row(true).ends_with("616263\",\"covered\":0}]}\n"), "{}", row(true));
     let mut library = Library::new(1);
     let view = View::of(&mut library, false, &message);
-    assert!(forms::csv(&library, false, &ORIGIN, &view).ends_with(",180,Overload Control Information,0,37,95,4,,39\n"));
+    assert!(forms::csv(&mut library, false, &ORIGIN, &view).ends_with(",180,Overload Control Information,0,37,95,4,,39\n"));
 }
 
 #[test]

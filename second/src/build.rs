@@ -158,9 +158,10 @@ impl Rules {
         octets
     }
 
-    /// Is the message accepted, with a table large enough, and every row kept?
+    /// Is the message accepted, with table and copy large enough, and every row
+    /// kept?
     fn is_all_kept(&self, kind: u32, message: &[u8]) -> bool {
-        let rows = self.accepted_rows(kind, message, usize::MAX);
+        let rows = self.judged_with_room(kind, message).accepted();
         rows.is_ok_and(|rows| rows.iter().all(|row| row.standing == Standing::Kept))
     }
 }

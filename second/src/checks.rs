@@ -1,13 +1,43 @@
 //! The checks. Each is made by itself; which of those that apply is given, the
 //! order in the rules says.
 
-use crate::rules::{Check, Listed, Message, Order, Rules};
+use crate::rules::{Check, Checks, Listed, Message, Order, Rules};
 use crate::verdict::Verdict;
 use crate::walk::{Row, Walk};
 
+/// What the checks of a message come to.
+pub(crate) struct Checked {
+    /// The first that applies; none accepts.
+    pub check: Option<Check>,
+    pub verdict: Verdict,
+    /// The rows that were met, up to where the framing is broken.
+    pub rows: Vec<Row>,
+}
+
+impl Checked {
+    /// The rows of an accepted message, or the refusal.
+    pub fn accepted(self) -> Result<Vec<Row>, Verdict> {
+        match self.check {
+            None => Ok(self.rows),
+            Some(_) => Err(self.verdict),
+        }
+    }
+}
+
+impl Checks {
+    /// Is the copy written where that check is the first to apply, or none?
+    pub(crate) fn copied(&self, first: Option<Check>) -> bool {
+        first.is_none_or(|check| self.with_copy.contains(&check))
+    }
+
+    /// The same of the table.
+    pub(crate) fn tabled(&self, first: Option<Check>) -> bool {
+        first.is_none_or(|check| self.with_table.contains(&check))
+    }
+}
+
 impl Rules {
-    /// The rows of a message to which none of these checks applies, or the
-    /// refusal by the first that does. What is lent bears on checks of its own:
+    /// Makes these checks of a message. What is lent bears on checks of its own:
     /// `lent` answers their faults for the message walked.
     pub(crate) fn checked(
         &self,
@@ -15,11 +45,15 @@ impl Rules {
         kind: u32,
         message: &[u8],
         lent: impl FnOnce(&Walk) -> u32,
-    ) -> Result<Vec<Row>, Verdict> {
+    ) -> Checked {
         let header = Header::new(self, kind, message);
         let mut faults = header.faults;
         if let Some(check) = order.first_before_the_walk(faults) {
-            return Err(self.refusal(check));
+            return Checked {
+                check: Some(check),
+                verdict: self.refusal(check),
+                rows: Vec::new(),
+            };
         }
         let walk = Walk::new(self, kind, message, header.listing(), header.body);
         faults |= fault(Check::Framing, walk.broken.is_some()) | lent(&walk);
@@ -29,9 +63,12 @@ impl Rules {
         if order.has(Check::Missing) {
             faults |= fault(Check::Missing, walk.first_missing().is_some());
         }
-        match order.first(faults) {
-            None => Ok(walk.rows),
-            Some(check) => Err(self.verdict(check, &walk)),
+        let check = order.first(faults);
+        let refusal = check.map(|check| self.verdict(check, &walk));
+        Checked {
+            check,
+            verdict: refusal.unwrap_or(Verdict::ACCEPTED),
+            rows: walk.rows,
         }
     }
 

@@ -22,7 +22,7 @@ impl Rules {
             fault(Check::CopyRoom, clean.len() < cleaned.len())
         };
         let checked = self.checked(&self.checks.clean, kind, message, lent);
-        if let Err(refusal) = checked {
+        if let Err(refusal) = checked.accepted() {
             return Answer::refused(refusal);
         }
         clean[..cleaned.len()].copy_from_slice(&cleaned);

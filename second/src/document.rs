@@ -51,6 +51,7 @@ fn sizes() -> Sizes {
         answer: 12,
         state: 249,
         most_rows: 1022,
+        program_copy: 4096,
     }
 }
 
@@ -84,10 +85,11 @@ fn checks() -> Checks {
     }
     causes[Missing as usize] = MANDATORY_MISSING;
     Checks {
-        judge: Order::new(&[&framing[..], &[TableRoom, Short, Missing]].concat()),
-        mask: Order::new(&[&framing[..], &[CopyRoom]].concat()),
+        judge: Order::new(&[&framing[..], &[CopyRoom, TableRoom, Short, Missing]].concat()),
         clean: Order::new(&[&framing[..], &[Short, Missing, CopyRoom]].concat()),
         build: Order::new(&[TableHeader, Kind, Type, Table, Room, Built]),
+        with_copy: vec![Short, Missing],
+        with_table: Vec::new(),
         causes,
     }
 }

@@ -1,5 +1,5 @@
-//! Independent second program for the GTPv2-C judge, masker, cleaner, builder and
-//! for the judge's form that is fed in parts.
+//! Independent second program for GTPv2-C messages: judge and masked copy in one
+//! call, the cleaner, the builder, and the judge's form that is fed in parts.
 //!
 //! It is written from the document alone and serves as a comparison, for
 //! correctness and for speed. `rules` is the shape of the rules and `document`
@@ -9,14 +9,14 @@
 mod build;
 mod checks;
 mod clean;
+mod cover;
 mod document;
 mod framing;
 pub mod generate;
-mod judge;
+mod judge_copy;
 pub mod lines;
 pub mod listings;
 mod lookup;
-mod mask;
 mod octets;
 mod pieces;
 mod program;
@@ -32,14 +32,9 @@ pub use pieces::Pieces;
 pub use rules::Rules;
 pub use verdict::{Answer, Verdict};
 
-/// Judges one whole message.
-pub fn judge(kind: u32, message: &[u8], table: &mut [u16]) -> Verdict {
-    DOCUMENT.judge(kind, message, table)
-}
-
-/// Writes the masked copy of a message.
-pub fn mask(kind: u32, message: &[u8], copy: &mut [u8]) -> Verdict {
-    DOCUMENT.mask(kind, message, copy)
+/// Judges one whole message and writes the masked copy of it.
+pub fn judge_copy(kind: u32, message: &[u8], table: &mut [u16], copy: &mut [u8]) -> Verdict {
+    DOCUMENT.judge_copy(kind, message, table, copy)
 }
 
 /// Writes the cleaned copy of a message.
@@ -57,14 +52,15 @@ pub fn start(kind: u32, table: &mut [u16]) -> Pieces<'static> {
     DOCUMENT.start(kind, table)
 }
 
-/// The judge for the C receiver.
-pub fn judge_octets(kind: u32, message: &[u8], table: &mut [u8], five: &mut [u8]) -> u16 {
-    DOCUMENT.judge_octets(kind, message, table, five)
-}
-
-/// The masker for the C receiver.
-pub fn mask_octets(kind: u32, message: &[u8], copy: &mut [u8], five: &mut [u8]) -> u16 {
-    DOCUMENT.mask_octets(kind, message, copy, five)
+/// Judge and copy in one call for the C receiver.
+pub fn judge_copy_octets(
+    kind: u32,
+    message: &[u8],
+    table: &mut [u8],
+    copy: &mut [u8],
+    five: &mut [u8],
+) -> u16 {
+    DOCUMENT.judge_copy_octets(kind, message, table, copy, five)
 }
 
 /// The cleaner for the C receiver.

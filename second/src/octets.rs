@@ -11,32 +11,27 @@ use crate::verdict::{Answer, Verdict};
 pub struct State<'r>(Option<Pieces<'r>>);
 
 impl Rules {
-    /// The judge with its table and its five numbers as octets; answers the
-    /// code. An odd last octet of the table is not used and stays.
+    /// Judge and copy in one call, with the table and the five numbers as octets;
+    /// answers the code. An odd last octet of the table is not used and stays.
     #[inline]
-    pub fn judge_octets(
+    pub fn judge_copy_octets(
         &self,
         kind: u32,
         message: &[u8],
         table: &mut [u8],
+        copy: &mut [u8],
         five: &mut [u8],
     ) -> u16 {
-        let verdict = match self.accepted_rows(kind, message, table.len() / 2) {
-            Ok(rows) => {
-                let mut numbers = vec![0; self.used(rows.len())];
-                self.write_table(kind, message, &rows, &mut numbers);
-                put(&numbers, table);
-                Verdict::ACCEPTED
-            }
-            Err(refusal) => refusal,
-        };
-        self.put_five(verdict, five)
-    }
-
-    /// The masker with its five numbers as octets; answers the code.
-    #[inline]
-    pub fn mask_octets(&self, kind: u32, message: &[u8], copy: &mut [u8], five: &mut [u8]) -> u16 {
-        self.put_five(self.mask(kind, message, copy), five)
+        let judged = self.judged(kind, message, table.len() / 2, copy.len());
+        if self.checks.copied(judged.check) {
+            self.write_copy(message, &judged.rows, copy);
+        }
+        if self.checks.tabled(judged.check) {
+            let mut numbers = vec![0; self.used(judged.rows.len())];
+            self.write_table(kind, message, &judged.rows, &mut numbers);
+            put(&numbers, table);
+        }
+        self.put_five(judged.verdict, five)
     }
 
     /// The cleaner with its six numbers as octets; answers the code.

@@ -1,9 +1,9 @@
 //! The judge program: what it prints for its standard input, and the same
-//! input taken by the masker and by the cleaner.
+//! input for a masked and for a cleaned copy.
 
 use std::fmt::Write;
 
-use crate::rules::Rules;
+use crate::rules::{Check, Rules};
 use crate::table::COLUMNS;
 use crate::verdict::Verdict;
 
@@ -11,8 +11,7 @@ impl Rules {
     /// What the judge program prints.
     pub fn program(&self, input: &[u8]) -> String {
         let (kind, message) = self.split(input);
-        let mut table = vec![0; self.used(self.sizes.most_rows)];
-        let verdict = self.judge(kind, message, &mut table);
+        let (verdict, table, _) = self.lent(kind, message);
         if verdict.accepted() {
             self.accept(&table)
         } else {
@@ -20,16 +19,25 @@ impl Rules {
         }
     }
 
-    /// The masked copy, or the line of the refusal.
+    /// The masked copy, which 11 and 12 leave too, or the line of the refusal.
     pub fn mask_program(&self, input: &[u8]) -> Result<Vec<u8>, String> {
+        const COPIED: [u16; 3] = [0, Check::Short as u16, Check::Missing as u16];
         let (kind, message) = self.split(input);
-        let mut copy = vec![0; message.len()];
-        let verdict = self.mask(kind, message, &mut copy);
-        if verdict.accepted() {
+        let (verdict, _, mut copy) = self.lent(kind, message);
+        if COPIED.contains(&verdict.code) {
+            copy.truncate(message.len());
             Ok(copy)
         } else {
             Err(refuse(verdict))
         }
+    }
+
+    /// The verdict, the table and the copy, lent as the judge program lends them.
+    fn lent(&self, kind: u32, message: &[u8]) -> (Verdict, Vec<u16>, Vec<u8>) {
+        let mut table = vec![0; self.used(self.sizes.most_rows)];
+        let mut copy = vec![0; self.sizes.program_copy];
+        let verdict = self.judge_copy(kind, message, &mut table, &mut copy);
+        (verdict, table, copy)
     }
 
     /// The cleaned copy, or the line of the refusal.

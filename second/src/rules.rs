@@ -152,6 +152,8 @@ pub struct Sizes {
     pub state: usize,
     /// Rows that the judge program's table has room for.
     pub most_rows: usize,
+    /// Octets of the copy that the judge program lends.
+    pub program_copy: usize,
 }
 
 /// What a table says before its rows, and of them.
@@ -218,10 +220,15 @@ impl Check {
 /// Which checks are made, in their order, and the causes that they give.
 #[derive(Debug, Clone, PartialEq, Eq)]
 pub struct Checks {
+    /// Those of judge and copy in one call. The pieces form goes by them too: it
+    /// has no copy, so that no copy of it is too short.
     pub judge: Order,
-    pub mask: Order,
     pub clean: Order,
     pub build: Order,
+    /// The refusals of the one call that write the copy, as acceptance does.
+    pub with_copy: Vec<Check>,
+    /// The same of the table.
+    pub with_table: Vec<Check>,
     /// The reply cause by code; code 0 is acceptance.
     pub causes: [u16; CODES],
 }

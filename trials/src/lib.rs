@@ -2,22 +2,16 @@
 
 use second::generate::{Buffers, Build, Call as Fed, Case, Feed, Left, Rooms, What};
 use second::{Head, DOCUMENT};
+use std::sync::atomic::AtomicU8;
 
 mod exports {
     extern "C" {
-        pub fn wok_judge(
+        pub fn wok_judge_copy(
             kind: u32,
             message: *const u8,
             message_len: usize,
             table: *mut u8,
             table_len: usize,
-            five: *mut u8,
-            five_len: usize,
-        ) -> u16;
-        pub fn wok_mask(
-            kind: u32,
-            message: *const u8,
-            message_len: usize,
             copy: *mut u8,
             copy_len: usize,
             five: *mut u8,
@@ -59,36 +53,32 @@ mod exports {
     }
 }
 
-/// The judge on octets: the code is the result. It asks nothing of its caller.
-pub fn judge(kind: u32, message: &[u8], table: &mut [u8], five: &mut [u8]) -> u16 {
+/// Judge and copy on octets: the code is the result. It asks nothing of its caller.
+pub fn judge_copy(kind: u32, message: &[u8], table: &mut [u8], copy: &mut [u8], five: &mut [u8]) -> u16 {
     // SAFETY: each pointer is valid for its length, and the written slices overlap nothing.
-    unsafe {
-        exports::wok_judge(
-            kind,
-            message.as_ptr(),
-            message.len(),
-            table.as_mut_ptr(),
-            table.len(),
-            five.as_mut_ptr(),
-            five.len(),
-        )
-    }
+    unsafe { judge_copy_at(kind, message.as_ptr(), message.len(), table, copy, five) }
 }
 
-/// The masker on octets: the code is the result. It asks nothing of its caller.
-pub fn mask(kind: u32, message: &[u8], copy: &mut [u8], five: &mut [u8]) -> u16 {
-    // SAFETY: as above.
-    unsafe {
-        exports::wok_mask(
-            kind,
-            message.as_ptr(),
-            message.len(),
-            copy.as_mut_ptr(),
-            copy.len(),
-            five.as_mut_ptr(),
-            five.len(),
-        )
-    }
+/// The same on octets that other threads may change meanwhile.
+pub fn judge_copy_shared(kind: u32, message: &[AtomicU8], table: &mut [u8], copy: &mut [u8], five: &mut [u8]) -> u16 {
+    // SAFETY: as above. The library's code is no Rust: of an octet that changes as it is read it has the one value or the other.
+    unsafe { judge_copy_at(kind, message.as_ptr().cast(), message.len(), table, copy, five) }
+}
+
+/// # Safety
+/// `message` is valid for `len` octets, and nothing that is written overlaps them.
+unsafe fn judge_copy_at(kind: u32, message: *const u8, len: usize, table: &mut [u8], copy: &mut [u8], five: &mut [u8]) -> u16 {
+    exports::wok_judge_copy(
+        kind,
+        message,
+        len,
+        table.as_mut_ptr(),
+        table.len(),
+        copy.as_mut_ptr(),
+        copy.len(),
+        five.as_mut_ptr(),
+        five.len(),
+    )
 }
 
 /// The cleaner on octets: the code is the result. It asks nothing of its caller.
@@ -164,38 +154,58 @@ pub fn state_octets() -> usize {
 pub const NOT_TAKEN: u16 = 17;
 
 /// Octets that show whether they were written over.
-fn filled(length: usize, seed: usize) -> Vec<u8> {
+pub fn filled(length: usize, seed: usize) -> Vec<u8> {
     let octet = |at: usize| (at.wrapping_mul(31).wrapping_add(seed.wrapping_mul(97)) % 251) as u8 | 1;
     (0..length).map(octet).collect()
 }
 
-/// One of the functions, of the library or of the second program: kind, message, table or copy, numbers answered.
-pub type Call = fn(u32, &[u8], &mut [u8], &mut [u8]) -> u16;
+/// Judge and copy, of the library or of the second program: kind, message, table, copy, five numbers.
+pub type JudgeCopyCall = fn(u32, &[u8], &mut [u8], &mut [u8], &mut [u8]) -> u16;
+
+/// The cleaner, of either: kind, message, copy, answer.
+pub type CleanCall = fn(u32, &[u8], &mut [u8], &mut [u8]) -> u16;
 
 /// The builder, of either: head, table, values, room, answer.
 pub type BuildCall = fn(Head, &[u8], &[u8], &mut [u8], &mut [u8]) -> u16;
 
-/// What differs between the two programs on one message with these buffers, if anything does.
-pub fn difference(case: &Case, lent: Buffers) -> Option<String> {
-    let Buffers { table, copy, five, clean: cleaned, answer } = lent;
-    let calls: [(&str, [usize; 2], [Call; 2]); 3] = [
-        ("judge", [table, five], [judge, second::judge_octets]),
-        ("mask", [copy, five], [mask, second::mask_octets]),
-        ("clean", [cleaned, answer], [clean, second::clean_octets]),
-    ];
-    calls.into_iter().find_map(|(name, lengths, calls)| {
-        let [ours, theirs] = both(case, lengths, calls)?;
-        Some(format!("{name}: kind {} with {lent:?}: {ours} against {theirs}", case.kind))
-    })
+/// The code of judge and copy, and the whole of what was lent to it.
+#[derive(Debug, Clone, PartialEq, Eq)]
+pub struct Judged {
+    pub code: u16,
+    pub table: Vec<u8>,
+    pub copy: Vec<u8>,
+    pub five: Vec<u8>,
 }
 
-/// The codes of both, if those or any octet that they leave differ.
-fn both(case: &Case, [length, numbers]: [usize; 2], calls: [Call; 2]) -> Option<[u16; 2]> {
+impl Judged {
+    /// What is lent, before a call.
+    pub fn before(lent: Buffers) -> Self {
+        let Buffers { table, copy, five, .. } = lent;
+        Self { code: 0, table: filled(table, copy), copy: filled(copy, five), five: filled(five, table) }
+    }
+
+    /// What a call leaves in these buffers.
+    pub fn of(call: JudgeCopyCall, case: &Case, lent: Buffers) -> Self {
+        let mut judged = Self::before(lent);
+        judged.code = call(case.kind, &case.message, &mut judged.table, &mut judged.copy, &mut judged.five);
+        judged
+    }
+}
+
+/// What differs between the two programs on one message with these buffers, if anything does.
+pub fn difference(case: &Case, lent: Buffers) -> Option<String> {
+    let calls: [JudgeCopyCall; 2] = [judge_copy, second::judge_copy_octets];
+    let [ours, theirs] = calls.map(|call| Judged::of(call, case, lent));
+    let differs = |name: &str, ours: u16, theirs: u16| format!("{name}: kind {} with {lent:?}: {ours} against {theirs}", case.kind);
+    if ours != theirs {
+        return Some(differs("judge and copy", ours.code, theirs.code));
+    }
+    let calls: [CleanCall; 2] = [clean, second::clean_octets];
     let [ours, theirs] = calls.map(|call| {
-        let (mut lent, mut answered) = (filled(length, numbers), filled(numbers, length));
-        (call(case.kind, &case.message, &mut lent, &mut answered), lent, answered)
+        let (mut cleaned, mut answer) = (filled(lent.clean, lent.answer), filled(lent.answer, lent.clean));
+        (call(case.kind, &case.message, &mut cleaned, &mut answer), cleaned, answer)
     });
-    (ours != theirs).then_some([ours.0, theirs.0])
+    (ours != theirs).then(|| differs("clean", ours.0, theirs.0))
 }
 
 /// What differs between the two programs in what they build with these lengths, if anything does.

@@ -1,27 +1,28 @@
 //! The proved library against the second program: every answer and every lent octet, with buffers around each boundary.
 
-use second::generate::{Buffers, Build, builds, Call, Case, Cut, Feed, figures, Generator, Random, What, CUTS};
-use trials::{build_difference, difference, feed_difference, rubbish_fault, state_octets};
+use second::generate::{Buffers, Build, builds, Call, Case, Cut, Feed, figures, Generator, lends, Random, What, CUTS};
+use trials::{build_difference, difference, feed_difference, rubbish_fault, state_octets, Judged};
 
-/// How often each code was met: of the judge with the largest table, of the cleaner with the buffers of the trials. And how many messages have a void
-/// group in the library's table.
+/// How often each code was met: of judge and copy with the largest buffers and with those of the trials, of the cleaner with those of the trials. And
+/// how many messages have a void group in the library's table.
 #[derive(Debug, Default)]
 struct Codes {
     judge: [usize; 14],
+    lent: [usize; 14],
     clean: [usize; 14],
     void: usize,
 }
 
-/// The code of the judge with the largest table, and whether a row of that table is void.
+/// The code with the largest table and copy, and whether a row of that table is void.
 fn judged(case: &Case) -> (u16, bool) {
-    let mut table = [0; 12_276];
-    let code = trials::judge(case.kind, &case.message, &mut table, &mut []);
+    let (mut table, mut copy) = ([0; 12_276], [0; 4_096]);
+    let code = trials::judge_copy(case.kind, &case.message, &mut table, &mut copy, &mut []);
     let rows = usize::from(u16::from_be_bytes([table[0], table[1]]));
     let mut rows = table[12..].chunks(12).take(rows);
     (code, code == 0 && rows.any(|row| row[10..] == [0, 4]))
 }
 
-/// Both trials of each case.
+/// All trials of each case.
 fn compare(cases: impl IntoIterator<Item = Case>) -> Codes {
     let mut codes = Codes::default();
     for (seed, case) in cases.into_iter().enumerate() {
@@ -29,6 +30,7 @@ fn compare(cases: impl IntoIterator<Item = Case>) -> Codes {
             if let Some(what) = difference(&case, lent) {
                 panic!("{what}\n{}", second::lines::case_line(&case));
             }
+            codes.lent[usize::from(Judged::of(trials::judge_copy, &case, lent).code)] += 1;
             let mut copy = vec![0; lent.clean];
             codes.clean[usize::from(trials::clean(case.kind, &case.message, &mut copy, &mut []))] += 1;
         }
@@ -45,9 +47,59 @@ fn every_figure() {
     let codes = compare(figures());
     for code in 0..=13 {
         assert!(code == 10 || code == 13 || codes.judge[code] >= 10, "{codes:?}");
+        assert!(codes.lent[code] >= 10, "{codes:?}");
         assert!(code == 10 || codes.clean[code] >= 10, "{codes:?}");
     }
     assert!(codes.void >= 1_400, "{codes:?}");
+}
+
+/// Tables around what the rows need, each with copies around the message's length and with buffers around the ten octets of the five numbers.
+fn around_each_limit(case: &Case) -> impl Iterator<Item = Buffers> {
+    let enough = case.enough();
+    let (table, copy) = (enough.table, enough.copy);
+    let tables = [0, table - 12, table - 2, table - 1, table, table + 1, table + 2, table + 13];
+    let copies = [0, copy.saturating_sub(1), copy, copy + 1, copy + 9];
+    let pairs = tables.into_iter().flat_map(move |table| copies.map(|copy| (table, copy)));
+    pairs.flat_map(move |(table, copy)| [0, 9, 10, 11].map(|five| Buffers { table, copy, five, ..enough }))
+}
+
+/// The code with these buffers, by the order of the refusals, from that with room enough.
+fn in_order(enough: u16, case: &Case, lent: Buffers) -> u16 {
+    match enough {
+        1..=9 => enough,
+        _ if lent.copy < case.message.len() => 13,
+        _ if lent.table / 2 < case.table_need() => 10,
+        _ => enough,
+    }
+}
+
+/// The octets of table, copy and five numbers that a code writes, each from the buffer's start; those after them stay.
+fn written(code: u16, case: &Case, lent: Buffers) -> [usize; 3] {
+    let table = if code == 0 { 2 * case.table_need() } else { 0 };
+    let copy = if matches!(code, 0 | 11 | 12) { case.message.len() } else { 0 };
+    [table, copy, if lent.five < 10 { 0 } else { 10 }]
+}
+
+/// Messages of each kind of verdict, void groups and the largest ones among them, with every pair of lengths around both limits: the order of the
+/// refusals, what each writes, and what the second program leaves in all three buffers.
+#[test]
+fn refusals_in_their_order() {
+    let mut codes = [0; 14];
+    for (case, _) in lends() {
+        let (enough, _) = judged(&case);
+        for lent in around_each_limit(&case) {
+            let said = || format!("{lent:?}\n{}", second::lines::case_line(&case));
+            let (before, ours) = (Judged::before(lent), Judged::of(trials::judge_copy, &case, lent));
+            assert_eq!(ours.code, in_order(enough, &case, lent), "{}", said());
+            let [table, copy, five] = written(ours.code, &case, lent);
+            assert_eq!(ours.table[table..], before.table[table..], "table, {}", said());
+            assert_eq!(ours.copy[copy..], before.copy[copy..], "copy, {}", said());
+            assert_eq!(ours.five[five..], before.five[five..], "five, {}", said());
+            assert!(ours == Judged::of(second::judge_copy_octets, &case, lent), "the second program, {}", said());
+            codes[usize::from(ours.code)] += 1;
+        }
+    }
+    assert!(codes.iter().all(|count| *count >= 100), "{codes:?}");
 }
 
 /// Both trials of each build, and how often each code was met.
@@ -157,6 +209,7 @@ fn every_octet_changed(name: &str, message: &[u8]) -> usize {
                 let mut lent = vec![enough];
                 // buffers one short and one longer for every eighth value
                 if value % 8 == 7 {
+                    lent.push(Buffers { table: enough.table - 1, ..enough });
                     lent.push(Buffers { copy: enough.copy.saturating_sub(1), clean: enough.clean.saturating_sub(1), ..enough });
                     lent.push(Buffers { copy: enough.copy + 1, clean: enough.clean + 1, ..enough });
                 }

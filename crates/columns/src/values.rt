@@ -36,7 +36,7 @@ pub fn entered(typ: u16, stand: u16) -> bool
     facts::group(&types, type_octet(typ))
 }
 
-// How many leading octets of a value are seen: those that the masker leaves, or all.
+// How many leading octets of a value are seen: those that the masked copy shows, or all.
 fn seen_octets(right: bool, typ: u16, stand: u16, len: usize) -> usize
     ensures { λ r. ⌜ r ≡ seenOctets right typ stand len ⌝ }
 {

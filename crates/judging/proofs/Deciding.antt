@@ -1,6 +1,6 @@
 -- The verdict on a reading, check by check, and that it is the judge's. Assumes nothing.
 --     given-refused, given-full, given-rest   by 1 to 9; by 10; by 11, by 12 or acceptance
---     verdict-is, decided-no, decided-yes   the verdict on its reading is the judge's          passed-on   on acceptance checks 1 to 8 passed
+--     verdict-is   the verdict on its reading is the judge's
 use mathlib.Core.Path.{_≡_, refl, sym, _∙_}
 use mathlib.Core.Bool.{Bool, true, false, cond}
 use mathlib.Core.List.{List, [], _∷_}
@@ -9,14 +9,12 @@ use native.Mathlib.Omega.{arith}
 use native.Mathlib.Nat.{pos-of-ne-zero}
 use borrow.Author.Tests.{lt-ltb, le-ltb}
 use Rattle.rules.specs.Sizes.{used}
-use Rattle.rules.specs.Framing.{octet, messageType}
 use Rattle.rules.specs.Listings.{book}
 use Rattle.rules.specs.Verdicts.{refused, check, refuses, first, framingChecks, tableChecks, judgeChecks, judgeVerdict}
-use Rattle.rules.specs.Answers.{readingOf, decisionOf, Read, Decided}
+use Rattle.rules.specs.Answers.{readingOf, Read}
 use Rattle.rules.specs.declared.Verdict.{Verdict}
 use Rattle.rules.specs.declared.Reading.{Reading}
-use Rattle.rules.proofs.Checks.{first-append, both-pass}
-use Rattle.rules.proofs.Header.{Passed, framed}
+use Rattle.rules.proofs.Checks.{first-append}
 use Rattle.answers.proofs.Refusing.{refusing}
 use Rattle.judging.specs.Judging.{given}
 
@@ -47,27 +45,3 @@ module _ (k : ℕ) (m : List ℕ) where
 
   pub verdict-is : {rows rows′ : List ℕ} (room : ℕ) {r : Reading} → Read k m rows r rows′ → given r room ≡ judgeVerdict book k m room
   verdict-is room x = rw (x .answers) (given-case room (refuses (first (framingChecks book k m))) refl)
-
-  pub decided-no : {rows rows′ : List ℕ} {room : ℕ} {r : Reading} → Read k m rows r rows′ → (v : Verdict) → v ≡ given r room → (v .code ≡ 0 → ⊥)
-      → Decided k m rows room (record { verdict = v; rows = r .rows; kept = r .kept; typ = 0; kind = 0 }) rows′
-  unfolding decisionOf
-  decided-no {rows} {rows′} {room} {r} x v e n =
-      let w : v ≡ judgeVerdict book k m room = e ∙ verdict-is room x in
-      let z : refuses (judgeVerdict book k m room) ≡ true = rw w at (refusing v n) in
-      record { answers = rw (w, z, x .answers); rows-left = x .rows-left }
-
-  -- where nothing refuses, the message has an octet 1, and the kind is one of three
-  pub decided-yes : {rows rows′ : List ℕ} {room : ℕ} {r : Reading} → Read k m rows r rows′ → (v : Verdict) → v ≡ given r room → v .code ≡ 0
-      → Decided k m rows room (record { verdict = v; rows = r .rows; kept = r .kept; typ = octet m 1; kind = k }) rows′
-  unfolding decisionOf messageType
-  decided-yes {rows} {rows′} {room} {r} x v e n =
-      let w : v ≡ judgeVerdict book k m room = e ∙ verdict-is room x in
-      let z : refuses (judgeVerdict book k m room) ≡ false = rw (← w, n) in
-      record { answers = rw (w, z, x .answers); rows-left = x .rows-left }
-
-  pub passed-on : {rows rows′ : List ℕ} (room : ℕ) {r : Reading} → Read k m rows r rows′ → (v : Verdict) → v ≡ given r room → v .code ≡ 0 → Passed book k m
-  unfolding judgeChecks
-  passed-on room x v e n =
-      let w : v ≡ judgeVerdict book k m room = e ∙ verdict-is room x in
-      let z : refuses (judgeVerdict book k m room) ≡ false = rw (← w, n) in
-      framed book k m (both-pass (framingChecks book k m) (tableChecks book k m room) z .0) .0

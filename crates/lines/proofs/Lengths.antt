@@ -6,11 +6,11 @@ use mathlib.Core.List.{List, [], _∷_, _++_}
 use Prim.Native.Nat.{ℕ, _+_, _*_, _≤_}
 use native.Mathlib.Omega.{arith}
 use lib.ListN.{length, length-append}
-use Rattle.rules.specs.Sizes.{mostRows, used}
+use Rattle.rules.specs.Sizes.{largestMessage, mostRows, used}
 use Rattle.rules.specs.Listings.{book}
 use Rattle.rules.specs.Standing.{Item, valuePlace}
 use Rattle.rules.specs.Table.{row, keptRows}
-use Rattle.rules.specs.Verdicts.{items, refuses, framingChecks, tableChecks, judgeChecks, judgeVerdict}
+use Rattle.rules.specs.Verdicts.{items, refuses, framingChecks, copyCheck, tableChecks, callChecks, callVerdict}
 use Rattle.rules.specs.Octets.{five}
 use Rattle.rules.specs.Program.{decimal, blanked, line, rowLines, textOf, acceptWord, refuseWord}
 use Rattle.rules.specs.declared.Verdict.{Verdict}
@@ -34,16 +34,16 @@ lines-length [] = omega arith
 lines-length (i ∷ is) = omega (arith, length-append (line (row i)) (rowLines is), line-length i, lines-length is)
 
 module _ (k : ℕ) (m : List ℕ) where
-  few : refuses (judgeVerdict book k m (used mostRows)) ≡ false → length (items book k m) ≤ mostRows
-  unfolding judgeChecks
-  few e = let p = both-pass (framingChecks book k m) (tableChecks book k m (used mostRows)) e .0 in rw (← count-is book k m p) (few-rows book k m)
+  few : refuses (callVerdict book k m largestMessage (used mostRows)) ≡ false → length (items book k m) ≤ mostRows
+  unfolding callChecks
+  few e = let p = both-pass (framingChecks book k m) (copyCheck book k m largestMessage ∷ tableChecks book k m (used mostRows)) e .0 in rw (← count-is book k m p) (few-rows book k m)
 
   pub text-length : length (textOf book k m) ≤ 40000
   unfolding textOf
-  text-length = go (refuses (judgeVerdict book k m (used mostRows))) refl
+  text-length = go (refuses (callVerdict book k m largestMessage (used mostRows))) refl
     where
       v : Verdict
-      v = judgeVerdict book k m (used mostRows)
+      v = callVerdict book k m largestMessage (used mostRows)
 
       is : List Item
       is = items book k m

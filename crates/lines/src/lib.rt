@@ -4,7 +4,7 @@ ghost use Prim.Native.Nat.{_*_, _≤_, _<_};
 ghost use lib.ListN.{length};
 ghost use Rattle.rules.specs.Program.{blanked, line, Written};
 ghost use Rattle.wording.specs.Puts.{Puts};
-ghost use Rattle.lines.specs.Lines.{linesFrom, Reported};
+ghost use Rattle.lines.specs.Lines.{linesFrom, Lists, listText, Reported};
 
 // A blank before each number, and a newline.
 fn blanked(numbers: &[u16], at: usize, out: &mut [u8]) -> usize
@@ -52,20 +52,28 @@ fn row_lines(rows: &[u16], count: usize, at: usize, out: &mut [u8]) -> usize
     to
 }
 
+// The text on an accepted message, by its table.
+fn listed(table: &[u16], out: &mut [u8]) -> usize
+    requires { ⌜ Lists (now table) ⌝ }
+    ensures { λ r. ⌜ Puts (listText (now (table .entry))) 0 (now (out .entry)) r (now (out .exit)) ⌝ }
+{
+    let count = table[0];
+    let kept = table[1];
+    let at = said(b"accept", &[count, kept], out);
+    row_lines(&table[6..], count as usize, at, out)
+}
+
 // The text on a message.
 fn report(kind: u32, message: &[u8], out: &mut [u8]) -> usize
     ensures { λ r. ⌜ Reported kind (now (message .entry)) (now (out .entry)) r (now (out .exit)) ⌝ }
 {
-    let mut rows = scratch::large();
-    let d = judging::decide(kind, message, &mut rows, 6138);
-    let v = d.verdict;
+    let mut table = scratch::table();
+    let mut copy = scratch::page();
+    let v = calling::judge_copy(kind, message, &mut table, &mut copy);
     if v.code != 0 {
         return said(b"refuse", &[v.code, v.cause, v.place, v.typ, v.inst], out);
     }
-    let count = d.rows as u16;
-    let kept = d.kept as u16;
-    let at = said(b"accept", &[count, kept], out);
-    row_lines(&rows, d.rows, at, out)
+    listed(&table, out)
 }
 
 // The text on an input: its first octet is the kind, and up to 4,097 more are the message.

@@ -11,7 +11,7 @@ use lib.ListN.{length}
 use Rattle.rules.specs.Frames.{framesOf}
 use Rattle.rules.specs.Standing.{void}
 use Rattle.rules.specs.Covered.{zeroed, insideCleared}
-use Rattle.masking.specs.Clearing.{number, openIn, between, clearedRow, clearedRows, Inside, RowWithin}
+use Rattle.masking.specs.Clearing.{number, openIn, between, clearedRow, clearedRows, Inside, RowWithin, Within}
 
 -- the first n rows of so many are cleared
 pub record Cleared (rows m : List ℕ) (count : ℕ) (copy copy′ : List ℕ) (n : ℕ) : Type 0 where
@@ -51,3 +51,7 @@ pub row-inside : {rows m : List ℕ} {i room : ℕ} → RowWithin rows m i room 
 row-inside {rows} {m} {i} w z room′ e =
     let n : number rows i 3 + number rows i 4 - number rows i 3 ≡ number rows i 4 = omega arith in
     record { begins = omega arith; ends = w .sent; within = omega (arith, w .ends); few = w .few; fills = rw n (w .fills z) }
+
+-- a copy of the same length
+pub within-same : {rows m : List ℕ} {n room room′ : ℕ} → Within rows m n room → room′ ≡ room → Within rows m n room′
+within-same w e = rw e w

@@ -5,4 +5,3 @@ pub mod Masks
 pub mod Opening
 pub mod Parts
 pub mod Rowed
-pub mod Settling

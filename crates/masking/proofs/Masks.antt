@@ -1,45 +1,35 @@
--- What the masker answers and leaves: by a reading, and a scratch with room for the rows that it counted. Assumes nothing.
---     settles   those rows are there, and lie in a copy that is long enough        masked   what is settled by them is the masker's answer
-use mathlib.Core.Path.{_≡_, refl, sym, ap, _∙_}
-use mathlib.Core.Bool.{Bool, true, false, cond}
-use mathlib.Core.List.{List, [], _∷_}
+-- Clearing by a scratch with room for the rows that a reading counted makes the masked copy. Assumes nothing.
+--     masks   those rows are there, and lie in a copy that is long enough        masked-is   cleared by them, the message is its masked copy
+use mathlib.Core.Path.{_≡_, sym, ap, _∙_}
+use mathlib.Core.Bool.{false}
+use mathlib.Core.List.{List}
 use Prim.Native.Nat.{ℕ, _+_, _*_, _≤_}
 use native.Mathlib.Omega.{arith}
-use borrow.Author.Tests.{ltb-false}
-use lib.Dec.{ltb}
 use lib.ListN.{length, drop, length-drop}
-use Rattle.rules.specs.Sizes.{mostRows, rowNumbers}
+use Rattle.rules.specs.Sizes.{rowNumbers}
 use Rattle.rules.specs.Framing.{headerLength}
 use Rattle.rules.specs.Listings.{book}
 use Rattle.rules.specs.Standing.{Item, valueEnd}
 use Rattle.rules.specs.Taking.{whole, taken}
 use Rattle.rules.specs.Table.{rowsOf, laid}
-use Rattle.rules.specs.Verdicts.{refused, check, refuses, first, framingChecks, items, copyCheck, maskChecks, maskVerdict}
-use Rattle.rules.specs.Covered.{clearAll, masked as maskedCopy, maskCopy}
-use Rattle.rules.specs.Answers.{Read, Masked, readingOf}
+use Rattle.rules.specs.Verdicts.{refuses, first, framingChecks, items}
+use Rattle.rules.specs.Covered.{clearAll, masked}
+use Rattle.rules.specs.Answers.{Read}
 use Rattle.rules.specs.declared.Verdict.{Verdict}
 use Rattle.rules.specs.declared.Reading.{Reading}
-use Rattle.rules.proofs.Checks.{first-append, both-pass, check-off, AllPass, all-pass}
 use Rattle.rules.proofs.Header.{Passed, framed}
-use Rattle.rules.proofs.Readings.{few, refusal-is, count-is, all-laid}
+use Rattle.rules.proofs.Readings.{count-is, all-laid}
 use Rattle.rules.proofs.Book.{book-sound}
 use Rattle.rules.proofs.Frames.{span}
 use Rattle.rules.proofs.Hidden.{Shown, shown-holds, rows-shown}
 use Rattle.rules.proofs.Rows.{Octets, octets-drop, Every, every-map, Fits, all-fit, body-met}
-use Rattle.masking.specs.Clearing.{clearedRows}
-use Rattle.masking.specs.Settled.{Settles, Settled}
+use Rattle.masking.specs.Clearing.{clearedRows, Masks}
 use Rattle.masking.proofs.Rowed.{clear-is, within-is}
 use Rattle.masking.proofs.Laying.{clear-laid}
 
 module _ (k : ℕ) (m : List ℕ) {rows rows′ : List ℕ} {r : Reading} (read : Read k m rows r rows′) where
   abbrev framing : Verdict
   framing = first (framingChecks book k m)
-
-  refusal-by : r .refusal ≡ framing
-  refusal-by = ap (λ (x : Reading). x .refusal) (read .answers) ∙ refusal-is book k m
-
-  pub most-rows : r .rows ≤ mostRows
-  most-rows = rw (read .answers) (few book k m)
 
   module _ (octets : Octets m) (held : rowNumbers * r .rows ≤ length rows) where
     module _ (pass : refuses framing ≡ false) where
@@ -73,26 +63,9 @@ module _ (k : ℕ) (m : List ℕ) {rows rows′ : List ℕ} {r : Reading} (read 
           let holds = every-map (Shown m) (λ i. span (i .hidden) ≤ i .len) is (λ i x. shown-holds x) show in
           ap (λ (n : ℕ). clearedRows rows′ m n (laid m copy)) rows-is ∙ clear-is m is rows rows′ scratch-is show (laid m copy) ∙ clear-laid m copy is ends holds
 
-    pub settles : Settles r rows′ m
-    settles c room l =
-        let p : refuses framing ≡ false = rw (← refusal-by, c) in
-        rw (rows-is p) (within-is m (is p) rows rows′ (scratch-is p) (show p) (0 + length (is p)) room (all p .0 .most) (fit p) l)
+    pub masks : refuses framing ≡ false → (room : ℕ) → length m ≤ room → Masks rows′ m (r .rows) room
+    masks p room l = record { within = rw (rows-is p) (within-is m (is p) rows rows′ (scratch-is p) (show p) (0 + length (is p)) room (all p .0 .most) (fit p) l); long = l }
 
-    module _ (copy : List ℕ) where
-      verdict-is : first (r .refusal ∷ check (ltb (length copy) (length m)) (refused 13 0) ∷ []) ≡ maskVerdict book k m (length copy)
-      unfolding maskChecks first
-      verdict-is = rw refusal-by (sym (first-append (framingChecks book k m) (copyCheck book k m (length copy) ∷ [])))
-
-      left-is : refuses (maskVerdict book k m (length copy)) ≡ false → clearedRows rows′ m (r .rows) (laid m copy) ≡ laid (maskedCopy book k m) copy
-      unfolding maskChecks maskedCopy
-      left-is e =
-          let p = both-pass (framingChecks book k m) (copyCheck book k m (length copy) ∷ []) e .0 in
-          cleared-is p copy ∙ ap (λ (js : List Item). laid (clearAll m js) copy) (sym (items-are p))
-
-      pub masked : {v : Verdict} {copy′ : List ℕ} → Settled r rows′ m copy v copy′ → Masked k m copy v copy′
-      unfolding maskCopy
-      masked {v} s = record { answers = s .answers ∙ verdict-is; copy-left = s .copy-left ∙ go (refuses v) refl }
-        where
-          go : (c : Bool) → refuses v ≡ c → cond c copy (clearedRows rows′ m (r .rows) (laid m copy)) ≡ maskCopy book k m copy
-          go true e = let f : refuses (maskVerdict book k m (length copy)) ≡ true = rw (← verdict-is, ← s .answers) e in rw f
-          go false e = let f : refuses (maskVerdict book k m (length copy)) ≡ false = rw (← verdict-is, ← s .answers) e in rw f (left-is f)
+    pub masked-is : refuses framing ≡ false → (copy : List ℕ) → clearedRows rows′ m (r .rows) (laid m copy) ≡ laid (masked book k m) copy
+    unfolding masked
+    masked-is p copy = cleared-is p copy ∙ ap (λ (js : List Item). laid (clearAll m js) copy) (sym (items-are p))

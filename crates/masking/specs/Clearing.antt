@@ -60,3 +60,8 @@ pub record RowWithin (rows m : List ℕ) (i room : ℕ) : Type 0 where
 -- and so are the first n rows
 abbrev pub Within : List ℕ → List ℕ → ℕ → ℕ → Type 0
 Within rows m n room = (i : ℕ) → i < n → RowWithin rows m i room
+
+-- and the copy has room for the message
+pub record Masks (rows m : List ℕ) (n room : ℕ) : Type 0 where
+  pub within : Within rows m n room
+  pub long : length m ≤ room

@@ -1,15 +1,12 @@
-// The masker: a copy of a message in which every covered octet is 0, each value cleared in its own part of the copy.
+// The masked copy: a copy of a message in which every covered octet is 0, each value cleared in its own part of the copy.
 ghost use mathlib.Core.Path.{_≡_};
 ghost use Prim.Native.Nat.{_+_, _-_, _≤_};
 ghost use lib.ListN.{length, replicate};
 ghost use Rattle.rules.specs.Frames.{framesOf};
 ghost use Rattle.rules.specs.Covered.{zeroed, insideCleared};
-ghost use Rattle.rules.specs.Answers.{Masked};
+ghost use Rattle.rules.specs.Table.{laid};
 ghost use Rattle.facts.specs.Facts.{facts};
-ghost use Rattle.masking.specs.Clearing.{between, clearedRow, clearedRows, Inside, RowWithin, Within};
-ghost use Rattle.masking.specs.Settled.{Settles, Settled};
-use rules::Reading;
-use rules::Verdict;
+ghost use Rattle.masking.specs.Clearing.{between, clearedRow, clearedRows, Inside, RowWithin, Within, Masks};
 
 // Every octet of the part becomes 0.
 pub(crate) fn clear(part: &mut [u8])
@@ -81,45 +78,12 @@ pub(crate) fn clear_rows(
     }
 }
 
-// The masked copy by a reading, and a scratch that holds its rows.
-pub(crate) fn settle(r: Reading, rows: &[u16], message: &[u8], copy: &mut [u8]) -> Verdict
-    requires { ⌜ Settles r (now rows) (now message) ⌝ }
-    ensures { λ v. ⌜ Settled r (now (rows .entry)) (now (message .entry)) (now (copy .entry)) v (now (copy .exit)) ⌝ }
+// The message over the start of a copy, and what is covered of the values of its first `count` rows cleared.
+pub fn write_copy(rows: &[u16], count: usize, message: &[u8], copy: &mut [u8])
+    requires { ⌜ Masks (now rows) (now message) count (length (now copy)) ⌝ }
+    ensures { λ _. ⌜ now (copy .exit) ≡ clearedRows (now (rows .entry)) (now (message .entry)) count (laid (now (message .entry)) (now (copy .entry))) ⌝ }
 {
-    let v = r.refusal;
-    if v.code != 0 {
-        return v;
-    }
-    if copy.len() < message.len() {
-        return answers::refuse(13, 0);
-    }
     copying::copy_octets(message, copy);
     let types = facts::table();
-    clear_rows(&types, rows, r.rows, message, copy);
-    answers::accept()
-}
-
-// The masker, with room for the rows of any message.
-pub(crate) fn mask_all(kind: u32, message: &[u8], copy: &mut [u8]) -> Verdict
-    ensures { λ r. ⌜ Masked kind (now (message .entry)) (now (copy .entry)) r (now (copy .exit)) ⌝ }
-{
-    let mut all = scratch::large();
-    let r = reading::read(kind, message, &mut all);
-    settle(r, &all, message, copy)
-}
-
-// The copy of a message with every covered octet 0; a refused message leaves the copy alone. Rows are counted also where the scratch is full,
-// so that the count says whether the small one holds them all.
-pub fn mask(kind: u32, message: &[u8], copy: &mut [u8]) -> Verdict
-    ensures { λ r. ⌜ Masked kind (now (message .entry)) (now (copy .entry)) r (now (copy .exit)) ⌝ }
-{
-    if scratch::crowded(message) {
-        return mask_all(kind, message, copy);
-    }
-    let mut few = scratch::small();
-    let r = reading::read(kind, message, &mut few);
-    if 64 < r.rows {
-        return mask_all(kind, message, copy);
-    }
-    settle(r, &few, message, copy)
+    clear_rows(&types, rows, count, message, copy);
 }

@@ -17,10 +17,9 @@ use Rattle.rules.specs.Standing.{fresh}
 use Rattle.rules.specs.Taking.{Out, cut, whole, walk, bodyLevel}
 use Rattle.rules.specs.Table.{rowsOf, tableOf, laid}
 use Rattle.rules.specs.Verdicts.{openingChecks, refused, refusedAt, check, refuses, first, headerChecks, framingChecks, judgeVerdict, judgeTable, items}
-use Rattle.rules.specs.Answers.{refusedReading, readingOf, readRows, Read, decisionOf, Decided}
+use Rattle.rules.specs.Answers.{refusedReading, readingOf, readRows, Read}
 use Rattle.rules.specs.declared.Verdict.{Verdict}
 use Rattle.rules.specs.declared.Reading.{Reading}
-use Rattle.rules.specs.declared.Decision.{Decision}
 use Rattle.rules.proofs.Standings.{no-mark}
 use Rattle.rules.proofs.Header.{Passed, passed}
 use Rattle.rules.proofs.Rows.{Octets, rows-length}
@@ -29,7 +28,7 @@ use Rattle.taking.specs.Held.{Held, held, noCounts}
 use Rattle.reading.specs.Scan.{wholeReading, scan}
 use Rattle.reading.proofs.Endings.{ends-refused, ends-cut, ends-whole, rest-is}
 use Rattle.judging.specs.Judging.{given}
-use Rattle.judging.proofs.Deciding.{verdict-is, decided-yes}
+use Rattle.judging.proofs.Deciding.{verdict-is}
 use Rattle.judging.proofs.Accepted.{Ready, ready}
 use Rattle.pieces.specs.Steps.{Walking, eatAll, begin, outcome}
 use Rattle.pieces.specs.Depth.{deepest, nests}
@@ -201,21 +200,15 @@ module _ (k room : ℕ) (m : List ℕ) (oct : Octets m) where
     blank-length : length blank ≡ room - headerNumbers
     blank-length = length-drop headerNumbers (zeros room) ∙ rw (length-replicate {A = ℕ} room 0)
 
-    abbrev decision : Decision
-    decision = record { verdict = given (wholeReading (s .counts)) room; rows = wholeReading (s .counts) .rows; kept = wholeReading (s .counts) .kept; typ = octet m 1; kind = k }
+    accept : refuses (judgeVerdict book k m room) ≡ false
+    accept = rw (← verdict-is k m room read) (rw reading-is at acc)
 
-    accept : decision .verdict .code ≡ 0
-    accept = let a : refuses (given (wholeReading (s .counts)) room) ≡ false = rw reading-is at acc in omega (arith, ltb-false 0 (given (wholeReading (s .counts)) room .code) a)
-
-    made : Decided k m blank room decision (s .rows)
-    made = decided-yes k m read (given (wholeReading (s .counts)) room) refl accept
-
-    held-all : rowNumbers * decision .rows ≤ length blank
+    held-all : rowNumbers * wholeReading (s .counts) .rows ≤ length blank
     unfolding wholeReading
     held-all = omega (arith, fits, blank-length)
 
-    there : Ready k m (s .rows) room decision
-    there = ready k m made accept held-all
+    there : Ready k m (s .rows) room (wholeReading (s .counts))
+    there = ready k m read room accept held-all
 
     framing : refuses (first (framingChecks book k m)) ≡ false
     unfolding wholeReading

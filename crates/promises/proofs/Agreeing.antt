@@ -1,10 +1,10 @@
--- Covered octets do not bear on the judge or the masker: a head differs at most in a first value octet that is covered, and that one bears on no
+-- Covered octets do not bear on verdict, table or copy: a head differs at most in a first value octet that is covered, and that one bears on no
 -- standing; what voids a group hangs on headers inside it, which are open. So the same elements are taken. Assumes nothing.
 --     same-met                                   a run of octets that differs in covered octets at most has the same rows
 --     same-reading, same-taken, same-covered     so has a message: it is refused by 1 to 9 or has the same rows and covered octets
 --     same-is-table                              and the same table
---     same-verdict, same-table, same-octets      the judge answers and leaves the same, the table in octets too
---     same-mask-verdict, same-masked, same-copy  and so does the masker
+--     same-verdict                               so it gets the same verdict, with no copy asked for
+--     same-mask-verdict, same-masked, same-copy  and with no table the same verdict and copy
 use mathlib.Core.Path.{_≡_, refl, sym, ap, _∙_}
 use mathlib.Core.Bool.{Bool, true, false, cond}
 use mathlib.Core.List.{List, [], _∷_, _++_}
@@ -23,9 +23,8 @@ use Rattle.rules.specs.Standing.{Item, fresh, void, lineIn, isOver, valuePlace,
 use Rattle.rules.specs.Taking.{whole, taken, bodyLevel}
 use Rattle.rules.specs.Met.{At, Met, ends, alone, group}
 use Rattle.rules.specs.Values.{isOf}
-use Rattle.rules.specs.Verdicts.{first, refuses, headerChecks, framingChecks, judgeChecks, maskChecks, judgeVerdict, maskVerdict, judgeTable}
+use Rattle.rules.specs.Verdicts.{first, refuses, headerChecks, framingChecks, judgeChecks, maskChecks, judgeVerdict, maskVerdict}
 use Rattle.rules.specs.Covered.{isAside, coveredIn, covered, masked, maskCopy}
-use Rattle.rules.specs.Octets.{tableRoom, judgeOctets}
 use Rattle.rules.specs.Sound.{sound, isFree}
 use Rattle.rules.specs.declared.Head.{Head}
 use Rattle.rules.proofs.Heads.{wholeHead, room-whole, at-is, at-within, at-len, fits, value-length}
@@ -240,7 +239,7 @@ same-met {b} {k} fine (group {v = v} {m = m} {p = p} {at = at} {xs = xs} {is = i
 
 -- ---- messages
 
--- all that the judge and the masker read of a message but its length
+-- all that is read of a message but its length
 pub record SameReading (b : Book) (k : ℕ) (m n : List ℕ) : Type 0 where
   pub header : headerChecks b k n ≡ headerChecks b k m
   pub level : bodyLevel b n ≡ bodyLevel b m
@@ -322,7 +321,7 @@ module _ (b : Book) (fine : sound b ≡ true) (k : ℕ) (m n : List ℕ) (s : Sa
   pub same-taken : taken b k n ≡ taken b k m
   same-taken = same-reading .rows
 
-  same-framing : framingChecks b k n ≡ framingChecks b k m
+  pub same-framing : framingChecks b k n ≡ framingChecks b k m
   unfolding framingChecks
   same-framing = rw (same-reading .header, same-taken)
 
@@ -346,15 +345,6 @@ module _ (b : Book) (fine : sound b ≡ true) (k : ℕ) (m n : List ℕ) (s : Sa
   pub same-verdict : (room : ℕ) → judgeVerdict b k n room ≡ judgeVerdict b k m room
   unfolding judgeChecks
   same-verdict room = rw (same-framing, same-taken, same-reading .level)
-
-  pub same-table : (table : List ℕ) → judgeTable b k n table ≡ judgeTable b k m table
-  unfolding judgeTable
-  same-table table = rw (same-verdict (length table), same-taken, same-reading .typ)
-
-  -- the table of the export to C
-  pub same-octets : (table : List ℕ) → judgeOctets b k n table ≡ judgeOctets b k m table
-  unfolding judgeOctets
-  same-octets table = rw (same-verdict (tableRoom table), same-taken, same-reading .typ)
 
   pub same-mask-verdict : (room : ℕ) → maskVerdict b k n room ≡ maskVerdict b k m room
   unfolding maskChecks

@@ -20,7 +20,7 @@ use Rattle.rules.specs.Values.{rowPlace, rowCount, tableType, tableKind}
 use Rattle.rules.specs.Verdicts.{accepted, refused, refuses, check, first, items, judgeVerdict}
 use Rattle.rules.specs.Emitting.{amply, acceptedWhole}
 use Rattle.rules.specs.Built.{firstOf, restOf, teidOf, sequenceOf, ZeroBits, built, buildChecks, buildVerdict, buildLength, buildRoom, lateVerdict, headedChecks, builtBy}
-use Rattle.rules.specs.Answers.{Judged, Builds}
+use Rattle.rules.specs.Answers.{Builds}
 use Rattle.rules.specs.declared.Verdict.{Verdict}
 use Rattle.rules.specs.declared.Sent.{Sent}
 use Rattle.rules.proofs.Book.{book-sound}
@@ -34,6 +34,7 @@ use Rattle.emitted.proofs.Wholes.{amply-accepted}
 use Rattle.emitted.proofs.Building.{build-accepted, headed-pass}
 use Rattle.emitted.proofs.BuiltRows.{BuiltAs, built-count, built-kept, built-as}
 use Rattle.emitted.proofs.Rebuilding.{rebuilt-itself, rebuilt-accepted}
+use Rattle.promises.specs.Judged.{Judged}
 use Rattle.promises.specs.Building.{SameRow, SameRows, HasHead, NumberAlone}
 use Rattle.promises.proofs.Commuting.{amply-whole}
 use Rattle.promises.proofs.Cleaned.{not-refused, judge-accepted}

@@ -4,7 +4,7 @@
 --     clean-judged-as              the copy's table                   clean-once   cleaned again
 --     whole-same                   of a message with every row kept   commutes     cleaned and masked, either first
 use mathlib.Core.Path.{_≡_, refl, sym, ap, _∙_}
-use mathlib.Core.Logic.{_⊎_, inl, inr, _↔_, _≢_}
+use mathlib.Core.Logic.{_↔_, _≢_}
 use mathlib.Core.Bool.{Bool, true, false, cond, not, _&&_}
 use mathlib.Core.List.{List, [], _∷_}
 use Prim.Native.Nat.{ℕ, zero, suc, _+_, _-_, _*_, _≤_, _<_}
@@ -21,15 +21,15 @@ use Rattle.rules.specs.Listings.{Book, book}
 use Rattle.rules.specs.Standing.{Item, kept, valuePlace}
 use Rattle.rules.specs.Table.{keptRows, tableOf, laid, noItem, nth}
 use Rattle.rules.specs.Values.{rowParent, rowType, rowInstance, rowPlace, rowLength, rowStanding}
-use Rattle.rules.specs.Verdicts.{accepted, refused, refuses, check, first, items, framingChecks, copyCheck, maskChecks, maskVerdict, judgeChecks, judgeVerdict, judgeNumbers}
-use Rattle.rules.specs.Covered.{masked, maskCopy}
+use Rattle.rules.specs.Verdicts.{accepted, refused, refuses, check, first, items, judgeChecks, judgeVerdict}
+use Rattle.rules.specs.Covered.{masked}
 use Rattle.rules.specs.Emitting.{emitted, amply, acceptedWhole}
 use Rattle.rules.specs.Cleaned.{pieces, cleaned, tooShort, cleanVerdict, cleanLength, cleanCopy}
-use Rattle.rules.specs.Answers.{Judged, Masked, Cleans}
+use Rattle.rules.specs.Answers.{Cleans}
 use Rattle.rules.specs.declared.Verdict.{Verdict}
 use Rattle.rules.specs.declared.Sent.{Sent}
 use Rattle.rules.proofs.Book.{book-sound}
-use Rattle.rules.proofs.Checks.{first-append, all-pass, first-pass}
+use Rattle.rules.proofs.Checks.{all-pass, first-pass}
 use Rattle.rules.proofs.Lines.{and-right}
 use Rattle.rules.proofs.Walked.{met-walked}
 use Rattle.rules.proofs.Rows.{Octets, kept-most, body-met, header-least}
@@ -39,13 +39,13 @@ use Rattle.tables.proofs.Rowed.{Begins, laid-begins, row-of, count-of, kept-of,
 use Rattle.verdicts.proofs.Laying.{laid-take, laid-drop, laid-in, enough-room, accepted-table}
 use Rattle.emitted.proofs.Refusals.{as-judged, clean-judged, clean-fits, judged-clean, clean-amply, amply-largely, amply-roomy}
 use Rattle.emitted.proofs.Wholes.{amply-accepted}
-use Rattle.verdicts.proofs.Acceptance.{OneOf, judge-codes}
+use Rattle.verdicts.proofs.Calling.{never-13}
 use Rattle.emitted.proofs.Cleaning.{clean-accepted, clean-shorter, clean-twice, clean-same}
 use Rattle.emitted.proofs.Written.{written-octets}
 use Rattle.emitted.proofs.KeptRows.{KeptAs, clean-count, row-kept-as}
+use Rattle.promises.specs.Judged.{Judged}
 use Rattle.promises.specs.Cleaning.{KeptRow, CleanRows}
 use Rattle.promises.proofs.Clearing.{masked-length}
-use Rattle.promises.proofs.Copies.{copy-front}
 use Rattle.promises.proofs.Commuting.{framed, amply-whole, still-amply, clean-masked}
 
 -- ---- the numbers of two tables
@@ -134,16 +134,9 @@ same-header k m ok (suc (suc (suc (suc j)))) l u v =
 pub not-refused : (v : Verdict) → v ≡ accepted → refuses v ≡ false
 not-refused v e = rw e
 
--- what the judge does not refuse it accepts, and 13 is not one of its numbers
+-- what is not refused is accepted
 pub judge-accepted : (k : ℕ) (m : List ℕ) (room : ℕ) → refuses (judgeVerdict book k m room) ≡ false → judgeVerdict book k m room ≡ accepted
 judge-accepted k m room e = first-pass (judgeChecks book k m room) (all-pass (judgeChecks book k m room) .0 e)
-
-never-13 : (k : ℕ) (m : List ℕ) (room : ℕ) → judgeVerdict book k m room ≡ refused 13 0 → ⊥
-never-13 k m room e = go (judge-codes book book-sound k m room)
-  where
-    go : OneOf judgeNumbers (judgeVerdict book k m room) → ⊥
-    go (inl a) = omega (arith, ap (λ (v : Verdict). v .code) (sym a ∙ e))
-    go (inr a) = let z : _≡_ {A = Bool} false true = rw e at a in let y : _≡_ {A = ℕ} 0 1 = cc in omega arith
 
 rows-backward : (k : ℕ) (m : List ℕ) → refuses (amply book k m) ≡ false → Backward 0 (items book k m)
 rows-backward k m ok =
@@ -193,7 +186,7 @@ module _ {k : ℕ} {m lent : List ℕ} {s : Sent} {left : List ℕ} (c : Cleans 
     )
       where
         go : s .verdict ≡ refused 13 0 → (r : Bool) → refuses v ≡ r → Dec (length lent < length (cleaned book k m)) → (v ≡ accepted) × (length lent < length (cleaned book k m))
-        go e true f d = absurd (never-13 k m (length T) (sym (j .answers) ∙ sym (refused-as-judged f) ∙ e))
+        go e true f d = absurd (never-13 book book-sound k m (length T) (ap (λ (x : Verdict). x .code) (sym (j .answers) ∙ sym (refused-as-judged f) ∙ e)))
         go e false f (yes d) = (j .answers ∙ judge-accepted k m (length T) (rw (j .answers) at f), d)
         go e false f (no d) =
             let a : s .verdict ≡ accepted = by-room (j .answers ∙ judge-accepted k m (length T) (rw (j .answers) at f)) ∙ rw (le-ltb (length lent) (length (cleaned book k m)) (omega arith)) in
@@ -254,6 +247,10 @@ module _ {k : ℕ} {m lent : List ℕ} {s : Sent} {left : List ℕ} (c : Cleans 
               (row-kept-as book book-sound k m amply-ok)),
         )
 
+    -- and so is the message, with room for its rows
+    pub accepted-too : (room : ℕ) → used (length (items book k m)) ≤ room → judgeVerdict book k m room ≡ accepted
+    accepted-too room l = judge-accepted k m room (rw (amply-roomy book k m room l) amply-ok)
+
     -- a message with every row kept is its own copy
     pub whole-same : Octets m → {T : List ℕ} {v : Verdict} {t : List ℕ} → Judged k m T v t → v ≡ accepted → keptCount t ≡ rows t → take (s .length) left ≡ m
     whole-same o {T} {v} {t} x e z =
@@ -261,11 +258,6 @@ module _ {k : ℕ} {m lent : List ℕ} {s : Sent} {left : List ℕ} (c : Cleans 
         let bt : Begins t (items book k m) = rw (x .table-left ∙ accepted-table book k m T ok) (laid-begins (messageType m) k (items book k m) T) in
         let all : keptRows (items book k m) ≡ length (items book k m) = sym (kept-of t (items book k m) bt) ∙ z ∙ count-of t (items book k m) bt in
         is-copy ∙ clean-same book book-sound k m o (rw (amply-ok, all) (eq-eqb (length (items book k m)) (length (items book k m)) refl))
-
--- a copy is made of what passes 1 to 9, where there is room
-mask-made : (k : ℕ) (m : List ℕ) (room : ℕ) → refuses (first (framingChecks book k m)) ≡ false → length m ≤ room → maskVerdict book k m room ≡ accepted
-unfolding maskChecks first check
-mask-made k m room e l = first-append (framingChecks book k m) (copyCheck book k m room ∷ []) ∙ rw (e, le-ltb room (length m) l)
 
 -- cleaned again the copy is itself
 pub clean-once : {k : ℕ} {m lent : List ℕ} {s : Sent} {left : List ℕ} (c : Cleans k m lent s left) (a : s .verdict ≡ accepted) {lent₂ : List ℕ} {s₂ : Sent} {left₂ : List ℕ}
@@ -281,26 +273,20 @@ clean-once {k} {m} {lent} {s} {left} c a {lent₂} {s₂} {left₂} d l =
     e .verdict-is ∙ judged-clean book k (cleaned book k m) (length lent₂) (used mostRows) (omega arith) ok (omega (arith, l, made c a, ap length twice)) in
     (yes-too, made e yes-too ∙ ap length twice ∙ sym (made c a), is-copy e yes-too ∙ twice ∙ sym (is-copy c a))
 
--- cleaned after it was masked, or masked after it was cleaned: with room for the copy both are made, and are the same
+-- cleaned after it was masked, or masked after it was cleaned, where `left₂` and `left₄` begin with the masked copies: with room the cleaned copy of the
+-- masked one is made, and they are the same
 pub commutes : {k : ℕ} {m lent : List ℕ} {s : Sent} {left : List ℕ} (c : Cleans k m lent s left) (a : s .verdict ≡ accepted) → Octets m
-    → {lent₂ : List ℕ} {v₂ : Verdict} {left₂ : List ℕ} → Masked k m lent₂ v₂ left₂ → v₂ ≡ accepted
+    → (left₂ : List ℕ) → take (length m) left₂ ≡ masked book k m
     → {lent₃ : List ℕ} {s₃ : Sent} {left₃ : List ℕ} → Cleans k (take (length m) left₂) lent₃ s₃ left₃ → s .length ≤ length lent₃
-    → {lent₄ : List ℕ} {v₄ : Verdict} {left₄ : List ℕ} → Masked k (take (s .length) left) lent₄ v₄ left₄ → s .length ≤ length lent₄
-    → (s₃ .verdict ≡ accepted) × (v₄ ≡ accepted) × (s₃ .length ≡ s .length) × (take (s₃ .length) left₃ ≡ take (s .length) left₄)
-commutes {k} {m} {lent} {s} {left} c a o {lent₂} {v₂} {left₂} x xa {lent₃} {s₃} {left₃} y yl {lent₄} {v₄} {left₄} z zl =
-    let front : take (length m) left₂ ≡ masked book k m = rw (x .copy-left) (copy-front book book-sound k m lent₂ (rw (x .answers) at (not-refused v₂ xa))) in
+    → (left₄ : List ℕ) → take (s .length) left₄ ≡ masked book k (cleaned book k m)
+    → (s₃ .verdict ≡ accepted) × (s₃ .length ≡ s .length) × (take (s₃ .length) left₃ ≡ take (s .length) left₄)
+commutes {k} {m} {lent} {s} {left} c a o left₂ front {lent₃} {s₃} {left₃} y yl left₄ back =
     let y′ : Cleans k (masked book k m) lent₃ s₃ left₃ = rw front at y in
-    let z′ : Masked k (cleaned book k m) lent₄ v₄ left₄ = rw (is-copy c a) at z in
     let both = clean-masked book book-sound k m o (amply-ok c a) in
-    let ok = amply-whole book k (cleaned book k m) (clean-accepted book book-sound k m (amply-ok c a)) in
-    let pass = framed book k (cleaned book k m) ok in
+    let pass = framed book k (cleaned book k m) (amply-whole book k (cleaned book k m) (clean-accepted book book-sound k m (amply-ok c a))) in
     let size : length (masked book k (cleaned book k m)) ≡ length (cleaned book k m) = masked-length book book-sound k (cleaned book k m) pass in
     let largely : refuses (judgeVerdict book k (masked book k m) (used mostRows)) ≡ false =
     rw (amply-largely book k (masked book k m) (used mostRows) (omega arith)) (still-amply book book-sound k m (amply-ok c a)) in
     let ya : s₃ .verdict ≡ accepted =
     y′ .verdict-is ∙ judged-clean book k (masked book k m) (length lent₃) (used mostRows) (omega arith) largely (omega (arith, yl, made c a, ap length both, size)) in
-    let za : v₄ ≡ accepted = z′ .answers ∙ mask-made k (cleaned book k m) (length lent₄) pass (omega (arith, zl, made c a)) in
-    let n : s₃ .length ≡ s .length = made y′ ya ∙ ap length both ∙ size ∙ sym (made c a) in
-    let back : take (length (cleaned book k m)) left₄ ≡ masked book k (cleaned book k m) =
-    rw (z′ .copy-left) (copy-front book book-sound k (cleaned book k m) lent₄ (rw (z′ .answers) at (not-refused v₄ za))) in
-    (ya, za, n, is-copy y′ ya ∙ both ∙ sym (rw (made c a) back))
+    (ya, made y′ ya ∙ ap length both ∙ size ∙ sym (made c a), is-copy y′ ya ∙ both ∙ sym back)

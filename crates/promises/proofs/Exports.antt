@@ -1,12 +1,13 @@
--- The exports to C, over the numbers that the receiver reads in the octets: the octets of a number are read as that number, so what holds of the judge's
+-- The exports to C, over the numbers that the receiver reads in the octets: the octets of a number are read as that number, so what holds of the call's
 -- table and of its five numbers holds of what is read. Assumes nothing.
---     export-leaves   on code 0 a table that is accepted is read in the table's octets       five-read, five-short   the five numbers
+--     stored-as-called   the call on a table lent as octets is the call on the numbers read in them       five-read, five-short   the five numbers
+--     stored-leaves, leaves-stored, stored-stays   what is left in the octets
 --     answer-read, answer-short   the five and a length
 use mathlib.Core.Path.{_≡_, refl, sym, ap, _∙_}
 use mathlib.Core.Logic.{_⊎_, inl, inr}
 use mathlib.Core.Bool.{Bool, true, false, cond}
 use mathlib.Core.List.{List, [], _∷_, _++_}
-use Prim.Native.Nat.{ℕ, _+_, _*_, _/_, _%_, _≤_, _<_}
+use Prim.Native.Nat.{ℕ, zero, suc, _+_, _*_, _/_, _%_, _≤_, _<_}
 use native.Mathlib.Omega.{arith}
 use borrow.Author.Tests.{lt-ltb, le-ltb}
 use lib.Dec.{ltb}
@@ -15,20 +16,20 @@ use Rattle.rules.specs.Framing.{messageType}
 use Rattle.rules.specs.Sizes.{fiveOctets, answerOctets, used}
 use Rattle.rules.specs.Types.{among}
 use Rattle.rules.specs.Listings.{book}
-use Rattle.rules.specs.Standing.{Item}
-use Rattle.rules.specs.Taking.{whole, taken, itemsIn}
 use Rattle.rules.specs.Table.{tableOf, laid}
-use Rattle.rules.specs.Verdicts.{accepted, refuses, items, judgeVerdict, judgeNumbers}
-use Rattle.rules.specs.Octets.{numberOf, numbersIn, octetsOf, five, fiveLaid, six, answerLaid, tableRoom, judgeOctets}
-use Rattle.rules.specs.Answers.{JudgedOctets}
+use Rattle.rules.specs.Verdicts.{accepted, refuses, items, callVerdict, callTable}
+use Rattle.rules.specs.Octets.{numberOf, numbersIn, octetsOf, five, fiveLaid, six, answerLaid, tableRoom, callOctets}
+use Rattle.rules.specs.Answers.{Called, CalledStored, CalledOctets}
 use Rattle.rules.specs.declared.Verdict.{Verdict}
 use Rattle.rules.proofs.Book.{book-sound}
 use Rattle.rules.proofs.Numbers.{numbers-length}
-use Rattle.rules.proofs.Header.{Passed, framed}
-use Rattle.tables.proofs.Rowed.{more-of, Begins, table-length, more-begins, count-of}
-use Rattle.verdicts.proofs.Laying.{laid-length, laid-past, judge-framed, enough-room}
-use Rattle.verdicts.proofs.Acceptance.{OneOf, judge-codes}
-use Rattle.verdicts.proofs.Accepting.{accepts, accept}
+use Rattle.tables.specs.Words.{rows}
+use Rattle.tables.proofs.Tests.{clash}
+use Rattle.tables.proofs.Rowed.{table-length, laid-begins, count-of}
+use Rattle.verdicts.proofs.Laying.{laid-length, laid-past, enough-room}
+use Rattle.verdicts.proofs.Acceptance.{OneOf}
+use Rattle.verdicts.proofs.Accepting.{accept}
+use Rattle.verdicts.proofs.Calling.{roomy, acceptance}
 use Rattle.verdicts.proofs.Completeness.{complete}
 use Rattle.promises.specs.Exports.{LeavesOctets}
 
@@ -42,78 +43,82 @@ unfolding octetsOf
 octets-length [] = refl
 octets-length (x ∷ xs) = omega (arith, octets-length xs)
 
--- a verdict with code 0 refuses nothing
-pub zero-accepts : (v : Verdict) → v .code ≡ 0 → refuses v ≡ false
-zero-accepts v e = rw e
-
--- and is acceptance, where every answer is that or has one of the numbers
-pub judge-zero : (v : Verdict) → OneOf judgeNumbers v → v .code ≡ 0 → v ≡ accepted
-judge-zero v (inl a) e = a
-judge-zero v (inr a) e = let z : false ≡ true = rw e at a in let y : _≡_ {A = ℕ} 0 1 = cc in absurd (omega arith)
+-- a verdict with code 0 is acceptance, where every answer is that or has one of the numbers, none of which is 0
+pub zero-accepted : (ns : List ℕ) → among 0 ns ≡ false → (v : Verdict) → OneOf ns v → v .code ≡ 0 → v ≡ accepted
+zero-accepted ns z v (inl a) e = a
+zero-accepted ns z v (inr a) e = absurd (clash (among 0 ns) (rw e at a) z)
 
 -- the code alone: 0, or one of the numbers
 pub code-of : (ns : List ℕ) (v : Verdict) → OneOf ns v → (v .code ≡ 0) ⊎ (among (v .code) ns ≡ true)
 code-of ns v (inl a) = inl (ap (λ (w : Verdict). w .code) a)
 code-of ns v (inr a) = inr a
 
-module _ (k : ℕ) (m t f : List ℕ) (c : ℕ) (t′ f′ : List ℕ) (x : JudgedOctets k m t f c t′ f′) where
-  abbrev v : Verdict
-  v = judgeVerdict book k m (tableRoom t)
+-- ---- numbers stored as octets
 
-  pub export-leaves : c ≡ 0 → LeavesOctets book k m t t′
-  unfolding judgeOctets laid
-  export-leaves zero = record {
-    accepts = rw numbers (accepts book book-sound k m (tableOf (messageType m) k es ++ more) es (framing .1 .1) begins (framing .0) (more-of k m es more) (tableRoom t) (judge-zero v (judge-codes book book-sound k m (tableRoom t)) (sym (x .answers) ∙ zero)));
-    size = ap length left ∙ laid-length (octetsOf (tableOf (messageType m) k es)) t (omega (arith, room, size));
-    stays = λ i l. ap (λ (xs : List ℕ). getD xs i 0) left ∙ laid-past (octetsOf (tableOf (messageType m) k es)) t i (omega (arith, size, rw (numbers, count-of (tableOf (messageType m) k es ++ more) es begins) at l));
+drop-numbers : (n : ℕ) (xs : List ℕ) → numbersIn (drop (2 * n) xs) ≡ drop n (numbersIn xs)
+unfolding numbersIn
+drop-numbers zero xs = refl
+drop-numbers (suc n) [] = let e : 2 * suc n ≡ suc (suc (2 * n)) = omega arith in rw e
+drop-numbers (suc n) (x ∷ []) = let e : 2 * suc n ≡ suc (suc (2 * n)) = omega arith in rw e
+drop-numbers (suc n) (x ∷ y ∷ xs) = let e : 2 * suc n ≡ suc (suc (2 * n)) = omega arith in rw e (drop-numbers n xs)
+
+-- octets laid over octets are read as numbers laid over numbers
+laid-numbers : (xs t : List ℕ) → numbersIn (laid (octetsOf xs) t) ≡ laid xs (numbersIn t)
+unfolding laid
+laid-numbers xs t = read-numbers xs (drop (length (octetsOf xs)) t) ∙ rw (octets-length xs, drop-numbers (length xs) t)
+
+module _ {k : ℕ} {m t c : List ℕ} {v : Verdict} {t′ c′ : List ℕ} (x : CalledStored k m t c v t′ c′) where
+  abbrev table : List ℕ
+  table = tableOf (messageType m) k (items book k m)
+
+  room-is : length (numbersIn t) ≡ tableRoom t
+  room-is = numbers-length t
+
+  -- the numbers that are read are those of the call on the numbers that were lent
+  pub stored-as-called : Called k m (numbersIn t) c v (numbersIn t′) c′
+  unfolding callOctets callTable
+  stored-as-called = record {
+    answers = rw room-is (x .answers);
+    table-left = ap numbersIn (x .table-left) ∙ rw room-is (go (refuses (callVerdict book k m (length c) (tableRoom t))));
+    copy-left = rw room-is (x .copy-left);
   }
     where
-      ok : refuses v ≡ false
-      ok = zero-accepts v (sym (x .answers) ∙ zero)
+      go : (r : Bool) → numbersIn (cond r t (laid (octetsOf table) t)) ≡ cond r (numbersIn t) (laid table (numbersIn t))
+      go true = refl
+      go false = laid-numbers table t
 
-      framing : Passed book k m × ((is : List Item) × (taken book k m ≡ whole is))
-      framing = framed book k m (judge-framed book k m (tableRoom t) ok)
+  pub stored-leaves : v ≡ accepted → (length m ≤ length c) × LeavesOctets book k m t t′
+  unfolding callOctets
+  stored-leaves a =
+      let y = acceptance book book-sound k m (length c) (numbersIn t) (numbersIn t′) .0 (sym (stored-as-called .answers) ∙ a, sym (stored-as-called .table-left)) in
+      let ok : refuses (callVerdict book k m (length c) (tableRoom t)) ≡ false = rw (sym (x .answers) ∙ a) in
+      let left : t′ ≡ laid (octetsOf table) t = x .table-left ∙ rw ok in
+      let size : length (octetsOf table) ≡ 2 * used (length (items book k m)) = octets-length table ∙ ap (λ (n : ℕ). 2 * n) (table-length (messageType m) k (items book k m)) in
+      let room = enough-room book k m (tableRoom t) (rw (roomy book book-sound k m (length c) (tableRoom t) (y .0)) at ok) in
+      let count : rows (numbersIn t′) ≡ length (items book k m) = count-of (numbersIn t′) (items book k m) (rw (ap numbersIn left ∙ laid-numbers table t) (laid-begins (messageType m) k (items book k m) (numbersIn t))) in (
+        y .0,
+        record {
+          accepts = y .1 .accepts;
+          size = ap length left ∙ laid-length (octetsOf table) t (omega (arith, room, size));
+          stays = λ i l. ap (λ (xs : List ℕ). getD xs i 0) left ∙ laid-past (octetsOf table) t i (omega (arith, size, count, l));
+        },
+      )
 
-      es : List Item
-      es = framing .1 .0
-
-      items-are : items book k m ≡ es
-      items-are = ap itemsIn (framing .1 .1)
-
-      more : List ℕ
-      more = numbersIn (drop (length (octetsOf (tableOf (messageType m) k es))) t)
-
-      begins : Begins (tableOf (messageType m) k es ++ more) es
-      begins = more-begins (messageType m) k es more
-
-      size : length (octetsOf (tableOf (messageType m) k es)) ≡ 2 * used (length es)
-      size = octets-length (tableOf (messageType m) k es) ∙ ap (λ (n : ℕ). 2 * n) (table-length (messageType m) k es)
-
-      room : used (length es) ≤ tableRoom t
-      room = rw items-are at (enough-room book k m (tableRoom t) ok)
-
-      left : t′ ≡ laid (octetsOf (tableOf (messageType m) k es)) t
-      left = x .table-left ∙ rw (ok, items-are)
-
-      numbers : numbersIn t′ ≡ tableOf (messageType m) k es ++ more
-      numbers = ap numbersIn left ∙ read-numbers (tableOf (messageType m) k es) (drop (length (octetsOf (tableOf (messageType m) k es))) t)
-
-  -- and where such a table is read, the code is 0
-  pub leaves-export : LeavesOctets book k m t t′ → c ≡ 0
-  leaves-export l =
+  -- and where such a table is read and the copy has room, it is acceptance
+  pub leaves-stored : (length m ≤ length c) × LeavesOctets book k m t t′ → v ≡ accepted
+  leaves-stored (r, l) =
       let y = complete book book-sound k m (numbersIn t′) (l .accepts .table) in
-      x .answers
-      ∙ ap (λ (w : Verdict). w .code)
-      (accept book book-sound k m (numbersIn t′) (y .0) (y .1) (y .2) (l .accepts .header) (tableRoom t)
-      (omega (arith, y .2 .room, numbers-length t′, l .size)) (l .accepts .none-short) (l .accepts .none-missing))
+      x .answers ∙ roomy book book-sound k m (length c) (tableRoom t) r
+      ∙ accept book book-sound k m (numbersIn t′) (y .0) (y .1) (y .2) (l .accepts .header) (tableRoom t)
+      (omega (arith, y .2 .room, numbers-length t′, l .size)) (l .accepts .none-short) (l .accepts .none-missing)
 
-  pub export-refused : 0 < c → t′ ≡ t
-  unfolding judgeOctets
-  export-refused l =
-      let e : refuses v ≡ true = lt-ltb 0 (v .code) (rw (x .answers) at l) in
-      x .table-left ∙ rw e
+  pub stored-stays : refuses v ≡ true → t′ ≡ t
+  unfolding callOctets
+  stored-stays e = let z : refuses (callVerdict book k m (length c) (tableRoom t)) ≡ true = rw (x .answers) at e in x .table-left ∙ rw z
 
--- ---- the five numbers
+-- the export to C is this, with the verdict's code for a result and its five numbers stored
+pub octets-stored : {k : ℕ} {m t c f : List ℕ} {d : ℕ} {t′ c′ f′ : List ℕ} → CalledOctets k m t c f d t′ c′ f′ → CalledStored k m t c (callVerdict book k m (length c) (tableRoom t)) t′ c′
+octets-stored x = record { answers = refl; table-left = x .table-left; copy-left = x .copy-left }
 
 module _ (f f′ : List ℕ) (v : Verdict) (e : f′ ≡ fiveLaid v f) where
   pub five-read : fiveOctets ≤ length f → take 5 (numbersIn f′) ≡ five v
@@ -125,6 +130,14 @@ module _ (f f′ : List ℕ) (v : Verdict) (e : f′ ≡ fiveLaid v f) where
   pub five-short : length f < fiveOctets → f′ ≡ f
   unfolding fiveLaid
   five-short l = e ∙ rw (lt-ltb (length f) fiveOctets l)
+
+  pub five-stays : (i : ℕ) → fiveOctets ≤ i → getD f′ i 0 ≡ getD f i 0
+  unfolding fiveLaid octetsOf
+  five-stays i l = rw e (go (ltb (length f) fiveOctets))
+    where
+      go : (c : Bool) → getD (cond c f (laid (octetsOf (five v)) f)) i 0 ≡ getD f i 0
+      go true = refl
+      go false = laid-past (octetsOf (five v)) f i l
 
 -- ---- the five and a length
 

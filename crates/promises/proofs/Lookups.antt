@@ -1,4 +1,4 @@
--- The lookups on a table that the judge wrote: its rows are all there and lie in the message, so a row is found exactly where it is below the count,
+-- The lookups on a table that the one call wrote: its rows are all there and lie in the message, so a row is found exactly where it is below the count,
 -- and a pair exactly where a kept row of the message level has it. Assumes nothing.
 --     desk-span, desk-found     the desk's lookup          plain-span, plain-found     the plain lookup
 -- And on any other run of numbers: where its header disagrees, or names another kind or another type, nothing is found.

@@ -1,12 +1,13 @@
--- Every statement to the owner, demand by demand, of the judge, the masker, the cleaner, the builder, the lookups and the exports by the listings of rule 3.2. Each is proved in the file
+-- Every statement to the owner, demand by demand, of the one call, the cleaner, the builder, the lookups and the exports by the listings of rule 3.2. Each is proved in the file
 -- that it cites, there, or in the laws below it, of any listings that pass the test `sound`; these do (`book-sound`). Assumes nothing.
-use mathlib.Core.Path.{_≡_, sym, ap, _∙_}
+use mathlib.Core.Path.{_≡_, refl, sym, ap, _∙_}
 use mathlib.Core.Logic.{_⊎_, inl, inr, _↔_, _≢_}
 use mathlib.Core.Bool.{Bool, true, false, cond, _||_}
-use mathlib.Core.List.{List}
+use mathlib.Core.List.{List, [], _∷_, _++_}
 use Prim.Native.Nat.{ℕ, suc, _+_, _-_, _*_, _≤_, _<_}
 use native.Mathlib.Omega.{arith}
-use lib.ListN.{length, take, drop, getD}
+use borrow.Author.Tests.{lt-ltb}
+use lib.ListN.{length, take, drop, getD, length-take}
 use denote.Ref.{RefT, now}
 use Rattle.rules.specs.Sizes.{largestMessage, mostRows, headerNumbers, fiveOctets, answerOctets, used}
 use Rattle.rules.specs.Framing.{octet, elementHeader, headerLength, messageType}
@@ -15,14 +16,15 @@ use Rattle.rules.specs.Listings.{book, noLine, lists}
 use Rattle.rules.specs.Frames.{Frame, hides}
 use Rattle.rules.specs.Standing.{Item, kept, unexpected, repeated, short, void}
 use Rattle.rules.specs.Taking.{whole, taken, bodyLevel}
-use Rattle.rules.specs.Table.{tableOf, laid}
-use Rattle.rules.specs.Verdicts.{accepted, refused, refusedAt, invalidLength, mandatoryMissing, refuses, first, framingChecks, items, judgeVerdict, maskVerdict, judgeTable, judgeNumbers, maskNumbers}
-use Rattle.rules.specs.Covered.{covered, masked, maskCopy}
+use Rattle.rules.specs.Table.{keptRows, tableOf, laid}
+use Rattle.rules.specs.Verdicts.{accepted, refused, refusedAt, invalidLength, mandatoryMissing, refuses, first, framingChecks, items, callVerdict, callTable, callNumbers, judgeVerdict, judgeTable}
+use Rattle.rules.specs.Covered.{covered, masked, callCopy}
 use Rattle.rules.specs.Cleaned.{cleaned, cleanChecks, cleanVerdict, cleanLength, cleanNumbers}
 use Rattle.rules.specs.Built.{teidOf, sequenceOf, ZeroBits, builtBy, buildChecks, buildVerdict, buildLength, buildNumbers}
 use Rattle.rules.specs.Values.{rowType, rowInstance, rowParent, rowPlace, rowLength, rowStanding, tableType, tableKind, isCut, disagrees, isOf, nowhere, Stands}
+use Rattle.rules.specs.Program.{blanked, rowLines, acceptWord, refuseWord, textOf}
 use Rattle.rules.specs.Octets.{numbersIn, five, six, tableRoom}
-use Rattle.rules.specs.Answers.{Judged, Masked, Cleans, Builds, Plain, PlainFound, Desk, DeskFound, JudgedOctets, MaskedOctets, CleanedOctets, BuiltOctets}
+use Rattle.rules.specs.Answers.{Called, CalledStored, Cleans, Builds, Plain, PlainFound, Desk, DeskFound, CalledOctets, CleanedOctets, BuiltOctets}
 use Rattle.rules.specs.declared.Verdict.{Verdict}
 use Rattle.rules.specs.declared.Span.{Span}
 use Rattle.rules.specs.declared.Sent.{Sent}
@@ -40,96 +42,99 @@ use Rattle.verdicts.specs.Missing.{ShortRow, Lacks, NamesShort, NamesLack}
 use Rattle.verdicts.specs.Accepts.{Leaves}
 use Rattle.verdicts.specs.IsCut.{IsCut}
 use Rattle.verdicts.specs.Covers.{ValueOver, framesIn, Covers}
-use Rattle.verdicts.specs.Conditions.{framingConditions, judgeConditions, maskConditions, OwnWords, judgeWords, maskWords}
+use Rattle.verdicts.specs.Conditions.{framingConditions, callConditions, OwnWords, callWords, copyingNumbers, Copies}
 use Rattle.tables.proofs.Rowed.{Begins}
-use Rattle.verdicts.proofs.Laying.{accepted-table}
-use Rattle.verdicts.proofs.Cases.{judge-words, mask-words, judge-says, mask-says}
-use Rattle.verdicts.proofs.Acceptance.{NoneHolds, OneOf, judge-accepting, mask-accepting, judge-codes, mask-codes, clean-codes, build-codes}
+use Rattle.verdicts.proofs.Cases.{call-words, call-says}
+use Rattle.verdicts.proofs.Acceptance.{NoneHolds, OneOf, call-accepting, call-codes, clean-codes, build-codes}
 use Rattle.tables.proofs.Standings.{listed-iff, unexpected-iff, repeated-iff, short-iff, void-iff, kept-iff, kept-listed}
 use Rattle.tables.proofs.Trees.{backward, between, in-message}
 use Rattle.tables.proofs.Tiling.{tiles}
 use Rattle.tables.proofs.Levels.{level-group, group-level}
 use Rattle.verdicts.proofs.Passing.{passed-iff}
-use Rattle.verdicts.proofs.Masking.{masks-iff, thirteen-iff, alike}
+use Rattle.verdicts.proofs.Calling.{ample, alike, roomy, roomy-table, nine, nine-place, thirteen, ten, eleven, eleven-place, twelve, twelve-place, fits, copies-iff, acceptance}
 use Rattle.verdicts.proofs.Completeness.{one-table, few}
-use Rattle.verdicts.proofs.Accepting.{table-iff, accepts-iff}
+use Rattle.verdicts.proofs.Accepting.{table-iff}
 use Rattle.verdicts.proofs.Covers.{covered-iff}
-use Rattle.verdicts.proofs.Cutting.{nine-iff}
-use Rattle.verdicts.proofs.CutPlace.{table-or-cut, never-both, cut-once, nine-at}
-use Rattle.verdicts.proofs.Refusing.{ten-iff, eleven-iff, eleven-at, twelve-iff, twelve-at}
+use Rattle.verdicts.proofs.CutPlace.{table-or-cut, never-both, cut-once}
 use Rattle.promises.specs.Agreeing.{SameOpen, AtDesk}
+use Rattle.promises.specs.Judged.{Judged}
 use Rattle.promises.specs.Voids.{Report, points, Inner, Says}
 use Rattle.promises.specs.Exports.{LeavesOctets}
 use Rattle.promises.specs.Cleaning.{CleanRows}
 use Rattle.promises.specs.Building.{SameRows, HasHead, NumberAlone}
 use Rattle.promises.proofs.Built.{short-table, long-table, build-alone, build-left-alone, is-built, build-past-stays, built-head, built-judged, built-zero, rebuilt-same}
 use Rattle.promises.specs.Lookups.{valueOf, TopRow, FirstTopRow, SomethingElse}
-use Rattle.promises.proofs.Left.{refused-table, refused-copy, table-stays}
+use Rattle.promises.proofs.Left.{refused-table, accepted-table, table-stays, copied, uncopied, copied-framed}
 use Rattle.promises.proofs.Covering.{header-open, element-header-open}
 use Rattle.promises.proofs.Voids.{report-void, report-kept, void-childless, void-apart, void-lacks, never-named}
 use Rattle.promises.proofs.Insides.{report-filled, inner-says, covers-void, inner-value-covered, inner-header-open}
-use Rattle.promises.proofs.Agreeing.{same-verdict, same-table, same-mask-verdict, same-copy}
-use Rattle.promises.proofs.Copies.{copy-octet, copy-past, copy-verdict, copy-table, copy-is-table, masked-twice, desk-part}
-use Rattle.promises.proofs.Exports.{code-of, export-leaves, leaves-export, export-refused, five-read, five-short, answer-read, answer-stays, answer-short}
-use Rattle.promises.proofs.Contracts.{two-judged, two-masked, two-judged-octets, two-masked-octets, copied, copied-octets}
-use Rattle.promises.proofs.Cleaned.{left-alone, refused-as-judged, accepted-exactly, thirteen-by-room, made, is-copy, past-stays, header-kept, no-longer, clean-judged-as, clean-once, whole-same, commutes}
+use Rattle.promises.proofs.Copies.{masked-twice, copy-octet, copy-past, copy-front, copy-open, copy-is-table}
+use Rattle.promises.proofs.Calling.{call-same, call-table-same, call-copy-same, two-called, two-stored, two-octets, called-open, desk-part}
+use Rattle.promises.proofs.Exports.{zero-accepted, code-of, stored-as-called, stored-leaves, leaves-stored, stored-stays, octets-stored, five-read, five-stays, five-short, answer-read, answer-stays, answer-short}
+use Rattle.promises.proofs.Cleaned.{left-alone, refused-as-judged, accepted-exactly, thirteen-by-room, made, is-copy, past-stays, header-kept, no-longer, clean-judged-as, accepted-too, clean-once, whole-same, commutes}
 use Rattle.promises.proofs.Lookups.{is-of, other-header, other-kind, no-type, other-type, plain-nowhere, desk-nowhere, desk-span, desk-found, plain-span, plain-found}
 
 module _ (k : ℕ) (m : List ℕ) where
   -- ======== Demand 1: whatever is asked gets an answer; a refusal has a number of rule 6.2, its place and its turn; and what is left is fixed.
 
-  -- each of the judge's numbers 1 to 12 is given exactly where its condition holds and none before it does, and says what is to be named
-  pub judge-in-its-case : (room j : ℕ) → j < length judgeNumbers → (judgeVerdict book k m room .code ≡ getD judgeNumbers j 0) ↔ OwnWords (judgeConditions book k m room) j
-  judge-in-its-case = judge-words book book-sound k m
+  -- each of the call's numbers, 1 to 9, 13, 10, 11 and 12 in this order, is given exactly where its condition holds and none before it does, and says what is
+  -- to be named
+  pub call-in-its-case : (octets room j : ℕ) → j < length callNumbers → (callVerdict book k m octets room .code ≡ getD callNumbers j 0) ↔ OwnWords (callConditions book k m octets room) j
+  call-in-its-case = call-words book book-sound k m
 
-  pub judge-names : (room j : ℕ) → j < length judgeNumbers → judgeVerdict book k m room .code ≡ getD judgeNumbers j 0
-      → getD (judgeWords book k m) j (λ v. ⊥) (judgeVerdict book k m room)
-  judge-names = judge-says book book-sound k m
-
-  -- and each of the masker's, 1 to 9 and 13
-  pub mask-in-its-case : (room j : ℕ) → j < length maskNumbers → (maskVerdict book k m room .code ≡ getD maskNumbers j 0) ↔ OwnWords (maskConditions book k m room) j
-  mask-in-its-case = mask-words book book-sound k m
-
-  pub mask-names : (room j : ℕ) → j < length maskNumbers → maskVerdict book k m room .code ≡ getD maskNumbers j 0 → getD (maskWords book k m) j (λ v. ⊥) (maskVerdict book k m room)
-  mask-names = mask-says book book-sound k m
+  pub call-names : (octets room j : ℕ) → j < length callNumbers → callVerdict book k m octets room .code ≡ getD callNumbers j 0
+      → getD (callWords book k m) j (λ v. ⊥) (callVerdict book k m octets room)
+  call-names octets room = call-says book book-sound k m room octets
 
   -- acceptance, five zeros, is given exactly where no condition holds
-  pub judge-accepts : (room : ℕ) → (judgeVerdict book k m room ≡ accepted) ↔ NoneHolds (judgeConditions book k m room) (length judgeNumbers)
-  judge-accepts = judge-accepting book book-sound k m
-
-  pub mask-accepts : (room : ℕ) → (maskVerdict book k m room ≡ accepted) ↔ NoneHolds (maskConditions book k m room) (length maskNumbers)
-  mask-accepts = mask-accepting book book-sound k m
+  pub call-accepts : (octets room : ℕ) → (callVerdict book k m octets room ≡ accepted) ↔ NoneHolds (callConditions book k m octets room) (length callNumbers)
+  call-accepts = call-accepting book book-sound k m
 
   -- and every answer is acceptance or has one of the numbers
-  pub judge-one-of : (room : ℕ) → OneOf judgeNumbers (judgeVerdict book k m room)
-  judge-one-of = judge-codes book book-sound k m
+  pub call-one-of : (octets room : ℕ) → OneOf callNumbers (callVerdict book k m octets room)
+  call-one-of octets room = call-codes book book-sound k m room octets
 
-  pub mask-one-of : (room : ℕ) → OneOf maskNumbers (maskVerdict book k m room)
-  mask-one-of = mask-codes book book-sound k m
-
-  -- none of 1 to 8 applies exactly where the header is as `Passed` says; and where one of 1 to 9 does, judge and masker say the same
+  -- none of 1 to 8 applies exactly where the header is as `Passed` says; what 1 to 9 refuse they refuse so, whatever is lent
   pub passed-exactly : Passed book k m ↔ NoneHolds (framingConditions book k m) 8
   passed-exactly = passed-iff book book-sound k m
 
-  pub refused-alike : (room room′ : ℕ) → 0 < judgeVerdict book k m room .code → judgeVerdict book k m room .code ≤ 9 → maskVerdict book k m room′ ≡ judgeVerdict book k m room
+  pub refused-alike : (octets room : ℕ) → 0 < callVerdict book k m octets room .code → callVerdict book k m octets room .code ≤ 9
+      → (octets′ room′ : ℕ) → callVerdict book k m octets′ room′ ≡ callVerdict book k m octets room
   refused-alike = alike book book-sound k m
 
-  -- a refusal leaves table and copy as they were; numbers past those used stay always
-  pub refusal-leaves-table : (t : List ℕ) → refuses (judgeVerdict book k m (length t)) ≡ true → judgeTable book k m t ≡ t
+  -- with a copy that has room for the message it says, and leaves in the table, what checks 1 to 12 do with no copy asked for
+  pub with-room : (octets room : ℕ) → length m ≤ octets → callVerdict book k m octets room ≡ judgeVerdict book k m room
+  with-room = roomy book book-sound k m
+
+  pub with-room-table : (octets : ℕ) (t : List ℕ) → length m ≤ octets → callTable book k m octets t ≡ judgeTable book k m t
+  with-room-table = roomy-table book book-sound k m
+
+  -- a refusal leaves the table as it was, and any but 11 and 12 the copy too; numbers past those used stay always
+  pub refusal-leaves-table : (octets : ℕ) (t : List ℕ) → refuses (callVerdict book k m octets (length t)) ≡ true → callTable book k m octets t ≡ t
   refusal-leaves-table = refused-table book k m
 
-  pub refusal-leaves-copy : (c : List ℕ) → refuses (maskVerdict book k m (length c)) ≡ true → maskCopy book k m c ≡ c
-  refusal-leaves-copy = refused-copy book k m
+  pub refusal-leaves-copy : (room : ℕ) (c : List ℕ) → (Copies (callVerdict book k m (length c) room) → ⊥) → callCopy book k m room c ≡ c
+  refusal-leaves-copy = uncopied book book-sound k m
 
-  pub past-the-used : (t : List ℕ) → drop (used (length (items book k m))) (judgeTable book k m t) ≡ drop (used (length (items book k m))) t
+  pub past-the-used : (octets : ℕ) (t : List ℕ) → drop (used (length (items book k m))) (callTable book k m octets t) ≡ drop (used (length (items book k m))) t
   past-the-used = table-stays book k m
 
   -- ======== Demand 2: verdict and table are those that the rules draw from the standard; rows lie in their parents and siblings apart; and 12 says that
   -- a level has no kept row of a pair that it must have, where nothing else went wrong before.
 
-  -- on acceptance the table is the numbers of the elements taken, over the start of what was lent
-  pub acceptance-writes : (t : List ℕ) → refuses (judgeVerdict book k m (length t)) ≡ false → judgeTable book k m t ≡ laid (tableOf (messageType m) k (items book k m)) t
-  acceptance-writes = accepted-table book k m
+  -- with 0, 11 and 12 the copy is the masked message over the start of what was lent; on acceptance the table is the numbers of the elements taken, and with 11
+  -- and 12 it stays
+  pub copy-writes : (room : ℕ) (c : List ℕ) → Copies (callVerdict book k m (length c) room) → callCopy book k m room c ≡ laid (masked book k m) c
+  copy-writes = copied book book-sound k m
+
+  pub acceptance-writes : (t c : List ℕ) → callVerdict book k m (length c) (length t) ≡ accepted
+      → (callTable book k m (length c) t ≡ laid (tableOf (messageType m) k (items book k m)) t) × (callCopy book k m (length t) c ≡ laid (masked book k m) c)
+  acceptance-writes t c a = (accepted-table book k m (length c) t (rw a), copy-writes (length t) c (rw a))
+
+  pub late-refusal-writes : (t c : List ℕ) → (callVerdict book k m (length c) (length t) .code ≡ 11) ⊎ (callVerdict book k m (length c) (length t) .code ≡ 12)
+      → (callTable book k m (length c) t ≡ t) × (callCopy book k m (length t) c ≡ laid (masked book k m) c)
+  late-refusal-writes t c (inl e) = (refusal-leaves-table (length c) t (rw e), copy-writes (length t) c (rw e))
+  late-refusal-writes t c (inr e) = (refusal-leaves-table (length c) t (rw e), copy-writes (length t) c (rw e))
 
   -- `IsTable` says what a table of the message is without the walk. Where 1 to 8 pass, it holds of t exactly where the message is whole and the numbers of
   -- its elements stand at the start of t, which says that it is of this kind and of the message's type; and of one table only
@@ -149,52 +154,56 @@ module _ (k : ℕ) (m : List ℕ) where
   pub cut-in-one-place : (t u : List ℕ) (q q′ : ℕ) → IsCut book k m t q → IsCut book k m u q′ → q ≡ q′
   cut-in-one-place = cut-once book book-sound k m
 
-  -- the judge accepts and leaves `left` exactly where a table of the message stands in it, no mandatory row of that is short and none is missing, and the
-  -- rest is as it was lent
-  pub accepts-exactly : (lent left : List ℕ) → ((judgeVerdict book k m (length lent) ≡ accepted) × (judgeTable book k m lent ≡ left)) ↔ Leaves book k m lent left
-  accepts-exactly = accepts-iff book book-sound k m
+  -- it accepts and leaves `left` exactly where the copy has room, a table of the message stands in `left`, no mandatory row of that is short and none is
+  -- missing, and the rest is as it was lent
+  pub accepts-exactly : (octets : ℕ) (lent left : List ℕ)
+      → ((callVerdict book k m octets (length lent) ≡ accepted) × (callTable book k m octets lent ≡ left)) ↔ ((length m ≤ octets) × Leaves book k m lent left)
+  accepts-exactly = acceptance book book-sound k m
 
-  -- 9 exactly where 1 to 8 pass and there is no table of the message; and at the place q exactly where the rows before q are right and leave out nothing, and
-  -- a level goes on at q with no whole element
-  pub nine-exactly : (room : ℕ) → (judgeVerdict book k m room .code ≡ 9) ↔ (Passed book k m × ((t : List ℕ) → IsTable book k m t → ⊥))
-  nine-exactly = nine-iff book book-sound k m
+  module _ (octets room : ℕ) where
+    -- 9 exactly where 1 to 8 pass and there is no table of the message; and at the place q exactly where the rows before q are right and leave out nothing,
+    -- and a level goes on at q with no whole element
+    pub nine-exactly : (callVerdict book k m octets room .code ≡ 9) ↔ (Passed book k m × ((t : List ℕ) → IsTable book k m t → ⊥))
+    nine-exactly = nine book book-sound k m octets room
 
-  pub nine-at-exactly : (room q : ℕ) → (judgeVerdict book k m room ≡ refusedAt 9 invalidLength q 0 0) ↔ (Passed book k m × ((t : List ℕ) × IsCut book k m t q))
-  nine-at-exactly = nine-at book book-sound k m
+    pub nine-at-exactly : (q : ℕ) → (callVerdict book k m octets room ≡ refusedAt 9 invalidLength q 0 0) ↔ (Passed book k m × ((t : List ℕ) × IsCut book k m t q))
+    nine-at-exactly = nine-place book book-sound k m octets room
 
-  -- 10 exactly where there is one and it has no room
-  pub ten-exactly : (room : ℕ) → (judgeVerdict book k m room .code ≡ 10) ↔ (Passed book k m × ((t : List ℕ) × IsTable book k m t × (room < used (rows t))))
-  ten-exactly = ten-iff book book-sound k m
+    -- 13 exactly where there is one and the copy has no room
+    pub thirteen-exactly : (callVerdict book k m octets room .code ≡ 13) ↔ ((octets < length m) × (Passed book k m × ((t : List ℕ) × IsTable book k m t)))
+    thirteen-exactly = thirteen book book-sound k m octets room
 
-  -- 11 exactly where it has room and a row is short whose pair is mandatory at its level; the first such row is named
-  pub mandatory-short : (room : ℕ) → (judgeVerdict book k m room .code ≡ 11)
-      ↔ (Passed book k m × ((t : List ℕ) × IsTable book k m t × (used (rows t) ≤ room) × ((r : ℕ) × ShortRow book k (bodyLevel book m) t r)))
-  mandatory-short = eleven-iff book book-sound k m
+    -- 10 exactly where the copy has and the table has none
+    pub ten-exactly : (callVerdict book k m octets room .code ≡ 10) ↔ ((length m ≤ octets) × (Passed book k m × ((t : List ℕ) × IsTable book k m t × (room < used (rows t)))))
+    ten-exactly = ten book book-sound k m octets room
 
-  pub mandatory-short-at : (room q y i : ℕ) → (judgeVerdict book k m room ≡ refusedAt 11 invalidLength q y i)
-      ↔ (Passed book k m × ((t : List ℕ) × IsTable book k m t × (used (rows t) ≤ room) × NamesShort book k (bodyLevel book m) t q y i))
-  mandatory-short-at = eleven-at book book-sound k m
+    -- 11 exactly where both have room and a row is short whose pair is mandatory at its level; the first such row is named
+    pub mandatory-short : (callVerdict book k m octets room .code ≡ 11)
+        ↔ ((length m ≤ octets) × (Passed book k m × ((t : List ℕ) × IsTable book k m t × (used (rows t) ≤ room) × ((r : ℕ) × ShortRow book k (bodyLevel book m) t r))))
+    mandatory-short = eleven book book-sound k m octets room
 
-  -- 12 exactly where none is, and some level lacks a kept row of a pair that is mandatory there; the first level and its first such pair are named
-  pub mandatory-missing : (room : ℕ) → (judgeVerdict book k m room .code ≡ 12)
-      ↔ (Passed book k m
-      × ((t : List ℕ) × IsTable book k m t × (used (rows t) ≤ room) × ((r : ℕ) → ShortRow book k (bodyLevel book m) t r → ⊥)
-      × ((p : ℕ) × (j : ℕ) × Lacks book k (bodyLevel book m) t p j)))
-  mandatory-missing = twelve-iff book book-sound k m
+    pub mandatory-short-at : (q y i : ℕ) → (callVerdict book k m octets room ≡ refusedAt 11 invalidLength q y i)
+        ↔ ((length m ≤ octets) × (Passed book k m × ((t : List ℕ) × IsTable book k m t × (used (rows t) ≤ room) × NamesShort book k (bodyLevel book m) t q y i)))
+    mandatory-short-at = eleven-place book book-sound k m octets room
 
-  pub mandatory-missing-at : (room q y i : ℕ) → (judgeVerdict book k m room ≡ refusedAt 12 mandatoryMissing q y i)
-      ↔ (Passed book k m
-      × ((t : List ℕ) × IsTable book k m t × (used (rows t) ≤ room) × ((r : ℕ) → ShortRow book k (bodyLevel book m) t r → ⊥)
-      × NamesLack book k (bodyLevel book m) t q y i))
-  mandatory-missing-at = twelve-at book book-sound k m
+    -- 12 exactly where none is, and some level lacks a kept row of a pair that is mandatory there; the first level and its first such pair are named
+    pub mandatory-missing : (callVerdict book k m octets room .code ≡ 12)
+        ↔ ((length m ≤ octets)
+        × (Passed book k m
+        × ((t : List ℕ) × IsTable book k m t × (used (rows t) ≤ room) × ((r : ℕ) → ShortRow book k (bodyLevel book m) t r → ⊥)
+        × ((p : ℕ) × (j : ℕ) × Lacks book k (bodyLevel book m) t p j))))
+    mandatory-missing = twelve book book-sound k m octets room
 
-  -- the masker makes a copy exactly where there is a table and the copy has room, whatever 10, 11 and 12 say; and says 13 exactly where only
-  -- the room is missing
-  pub masks-exactly : (room : ℕ) → (maskVerdict book k m room ≡ accepted) ↔ ((Passed book k m × ((t : List ℕ) × IsTable book k m t)) × (length m ≤ room))
-  masks-exactly = masks-iff book book-sound k m
+    pub mandatory-missing-at : (q y i : ℕ) → (callVerdict book k m octets room ≡ refusedAt 12 mandatoryMissing q y i)
+        ↔ ((length m ≤ octets)
+        × (Passed book k m
+        × ((t : List ℕ) × IsTable book k m t × (used (rows t) ≤ room) × ((r : ℕ) → ShortRow book k (bodyLevel book m) t r → ⊥)
+        × NamesLack book k (bodyLevel book m) t q y i)))
+    mandatory-missing-at = twelve-place book book-sound k m octets room
 
-  pub thirteen-exactly : (room : ℕ) → (maskVerdict book k m room .code ≡ 13) ↔ ((Passed book k m × ((t : List ℕ) × IsTable book k m t)) × (room < length m))
-  thirteen-exactly = thirteen-iff book book-sound k m
+    -- a copy is written, which the numbers 0, 11 and 12 tell, exactly where there is a table and both have room, whatever is short or missing
+    pub copies-exactly : Copies (callVerdict book k m octets room) ↔ ((length m ≤ octets) × (Passed book k m × ((t : List ℕ) × IsTable book k m t × (used (rows t) ≤ room))))
+    copies-exactly = copies-iff book book-sound k m octets room
 
   -- ---- the rows of a table of the message, by their six numbers
 
@@ -303,8 +312,8 @@ module _ (k : ℕ) (m : List ℕ) where
       pub void-requires-nothing : (j : ℕ) → Lacks book k (bodyLevel book m) t (suc r) j → ⊥
       void-requires-nothing = void-lacks book book-sound k m t x r l e
 
-      pub void-not-named : (room : ℕ) → 11 ≤ judgeVerdict book k m room .code
-          → (judgeVerdict book k m room .place < rowStart t r) ⊎ (rowEnd t r ≤ judgeVerdict book k m room .place)
+      pub void-not-named : (octets room : ℕ) → 11 ≤ callVerdict book k m octets room .code
+          → (callVerdict book k m octets room .place < rowStart t r) ⊎ (rowEnd t r ≤ callVerdict book k m octets room .place)
       void-not-named = never-named book book-sound k m t x r l e p
 
       -- each element inside it is there as its header says
@@ -331,37 +340,62 @@ module _ (k : ℕ) (m : List ℕ) where
   covered-exactly = covered-iff book book-sound k m
 
   module _ (n : List ℕ) (s : SameOpen book k m n) where
-    pub both-verdict : (room : ℕ) → judgeVerdict book k n room ≡ judgeVerdict book k m room
-    both-verdict = same-verdict book book-sound k m n s
+    pub both-verdict : (octets room : ℕ) → callVerdict book k n octets room ≡ callVerdict book k m octets room
+    both-verdict = call-same book book-sound k m n s
 
-    pub both-table : (t : List ℕ) → judgeTable book k n t ≡ judgeTable book k m t
-    both-table = same-table book book-sound k m n s
+    pub both-table : (octets : ℕ) (t : List ℕ) → callTable book k n octets t ≡ callTable book k m octets t
+    both-table = call-table-same book book-sound k m n s
 
-    pub both-mask-verdict : (room : ℕ) → maskVerdict book k n room ≡ maskVerdict book k m room
-    both-mask-verdict = same-mask-verdict book book-sound k m n s
+    pub both-copy : (room : ℕ) (c : List ℕ) → callCopy book k n room c ≡ callCopy book k m room c
+    both-copy = call-copy-same book book-sound k m n s
 
-    pub both-copy : (c : List ℕ) → maskCopy book k n c ≡ maskCopy book k m c
-    both-copy = same-copy book book-sound k m n s
+  -- a copy that is made is zero in each covered octet and the message's own elsewhere; handed to the call with any buffers, those first lent among them, it gets the
+  -- message's own verdict, table and copy
+  module _ (t c : List ℕ) (made : Copies (callVerdict book k m (length c) (length t))) where
+    abbrev copy : List ℕ
+    copy = callCopy book k m (length t) c
 
-  -- a copy that is made is zero in each covered octet and the message's own elsewhere, and is judged and tabled as the message is
-  module _ (c : List ℕ) (made : refuses (maskVerdict book k m (length c)) ≡ false) where
-    pub copy-holds : (j : ℕ) → j < length m → getD (maskCopy book k m c) j 0 ≡ cond (covered book k m j) 0 (getD m j 0)
-    copy-holds = copy-octet book book-sound k m c made
+    framing : refuses (first (framingChecks book k m)) ≡ false
+    framing = copied-framed book book-sound k m (length t) c made
 
-    pub copy-stays : (j : ℕ) → length m ≤ j → getD (maskCopy book k m c) j 0 ≡ getD c j 0
-    copy-stays = copy-past book book-sound k m c made
+    written : callCopy book k m (length t) c ≡ laid (masked book k m) c
+    written = copied book book-sound k m (length t) c made
 
-    pub copy-judged : (room : ℕ) → judgeVerdict book k (take (length m) (maskCopy book k m c)) room ≡ judgeVerdict book k m room
-    copy-judged = copy-verdict book book-sound k m c made
+    agrees : SameOpen book k m (take (length m) copy)
+    agrees = copy-open book book-sound k m framing c written
 
-    pub copy-tabled : (t : List ℕ) → judgeTable book k (take (length m) (maskCopy book k m c)) t ≡ judgeTable book k m t
-    copy-tabled = copy-table book book-sound k m c made
+    pub copy-holds : (j : ℕ) → j < length m → getD (callCopy book k m (length t) c) j 0 ≡ cond (covered book k m j) 0 (getD m j 0)
+    copy-holds = copy-octet book book-sound k m framing c written
 
-    -- and so, whatever the judge says of it, is its table: the same rows are void
-    pub copy-has-table : Passed book k m → (t : List ℕ) → IsTable book k m t → IsTable book k (take (length m) (maskCopy book k m c)) t
-    copy-has-table = copy-is-table book book-sound k m c made
+    pub copy-stays : (j : ℕ) → length m ≤ j → getD (callCopy book k m (length t) c) j 0 ≡ getD c j 0
+    copy-stays = copy-past book book-sound k m framing c written
+
+    pub copy-judged : (octets room : ℕ) → callVerdict book k (take (length m) (callCopy book k m (length t) c)) octets room ≡ callVerdict book k m octets room
+    copy-judged = both-verdict (take (length m) copy) agrees
+
+    pub copy-tabled : (octets : ℕ) (u : List ℕ) → callTable book k (take (length m) (callCopy book k m (length t) c)) octets u ≡ callTable book k m octets u
+    copy-tabled = both-table (take (length m) copy) agrees
+
+    pub copy-copied : (room : ℕ) (d : List ℕ) → callCopy book k (take (length m) (callCopy book k m (length t) c)) room d ≡ callCopy book k m room d
+    copy-copied = both-copy (take (length m) copy) agrees
+
+    -- and so, whatever the call says of it, is its table: the same rows are void
+    pub copy-has-table : Passed book k m → (u : List ℕ) → IsTable book k m u → IsTable book k (take (length m) (callCopy book k m (length t) c)) u
+    copy-has-table = copy-is-table book book-sound k m framing c written
 
   -- ======== What a reader expects besides.
+
+  -- the judge program lends a copy buffer and a table that are large enough: its text is that of checks 1 to 12 with no copy asked for, and 10 is never among them
+  pub program-says : textOf book k m
+      ≡ cond (refuses (judgeVerdict book k m (used mostRows))) (refuseWord ++ blanked (five (judgeVerdict book k m (used mostRows))))
+      (acceptWord ++ (blanked (length (items book k m) ∷ keptRows (items book k m) ∷ []) ++ rowLines (items book k m)))
+  unfolding textOf
+  program-says = rw (ample book book-sound k m (used mostRows))
+
+  pub program-has-room : judgeVerdict book k m (used mostRows) .code ≡ 10 → ⊥
+  program-has-room e =
+      let w = ten-exactly largestMessage (used mostRows) .0 (rw (ample book book-sound k m (used mostRows)) e) in
+      omega (arith, w .1 .1 .2, at-most-1022 (w .1 .1 .0) (w .1 .1 .1) (w .1 .0 .most))
 
   pub mask-twice : refuses (first (framingChecks book k m)) ≡ false → masked book k (masked book k m) ≡ masked book k m
   mask-twice = masked-twice book book-sound k m
@@ -379,54 +413,71 @@ desk-blind k copy table row m n mCopy nCopy mPart nPart a c s = desk-part book b
 
 -- ======== The same on the contracts of the public functions: of any answers that they allow.
 
--- ---- the judge
+-- a front part is no longer than it was asked for
+front-room : (n : ℕ) (xs : List ℕ) {r : ℕ} → n ≤ r → length (take n xs) ≤ r
+front-room n xs l = omega (arith, l, length-take n xs)
 
-module _ {k : ℕ} {m lent : List ℕ} {v : Verdict} {left : List ℕ} (c : Judged k m lent v left) where
-  pub judged-in-its-case : (j : ℕ) → j < length judgeNumbers → (v .code ≡ getD judgeNumbers j 0) ↔ OwnWords (judgeConditions book k m (length lent)) j
-  judged-in-its-case j l = rw (c .answers) (judge-in-its-case k m (length lent) j l)
+-- ---- the one call
 
-  pub judged-one-of : OneOf judgeNumbers v
-  judged-one-of = rw (c .answers) (judge-one-of k m (length lent))
+module _ {k : ℕ} {m t c : List ℕ} {v : Verdict} {t′ c′ : List ℕ} (x : Called k m t c v t′ c′) where
+  pub called-in-its-case : (j : ℕ) → j < length callNumbers → (v .code ≡ getD callNumbers j 0) ↔ OwnWords (callConditions book k m (length c) (length t)) j
+  called-in-its-case j l = rw (x .answers) (call-in-its-case k m (length c) (length t) j l)
 
-  pub judged-refused : refuses v ≡ true → left ≡ lent
-  judged-refused e = c .table-left ∙ refusal-leaves-table k m lent (rw (c .answers) at e)
+  pub called-one-of : OneOf callNumbers v
+  called-one-of = rw (x .answers) (call-one-of k m (length c) (length t))
 
-  -- it accepts exactly where what is left is a table of the message with nothing mandatory short or missing, and all else as it was lent
-  pub judged-exactly : (v ≡ accepted) ↔ Leaves book k m lent left
-  judged-exactly = (
-    λ a. accepts-exactly k m lent left .0 (sym (c .answers) ∙ a, sym (c .table-left)),
-    λ x. c .answers ∙ accepts-exactly k m lent left .1 x .0,
+  pub called-refused : refuses v ≡ true → t′ ≡ t
+  called-refused e = x .table-left ∙ refusal-leaves-table k m (length c) t (rw (x .answers) at e)
+
+  pub called-copy-stays : (Copies v → ⊥) → c′ ≡ c
+  called-copy-stays off = x .copy-left ∙ refusal-leaves-copy k m (length t) c (λ z. off (rw (x .answers) z))
+
+  -- it accepts exactly where the copy has room and what is left is a table of the message with nothing mandatory short or missing, and all else as it was lent
+  pub called-exactly : (v ≡ accepted) ↔ ((length m ≤ length c) × Leaves book k m t t′)
+  called-exactly = (
+    λ a. accepts-exactly k m (length c) t t′ .0 (sym (x .answers) ∙ a, sym (x .table-left)),
+    λ y. x .answers ∙ accepts-exactly k m (length c) t t′ .1 y .0,
   )
 
   -- so all that is said of the rows of a table holds of what is left
-  pub judged-table : v ≡ accepted → IsTable book k m left
-  judged-table a = judged-exactly .0 a .accepts .table
+  pub called-table : v ≡ accepted → IsTable book k m t′
+  called-table a = called-exactly .0 a .1 .accepts .table
 
   -- and its standing 4 is as CR 8 says
-  pub judged-void : v ≡ accepted → (r : ℕ) → r < rows left → (rowStanding left r ≡ void) ↔ (Report m left r × (10 < points m left r))
-  judged-void a = void-exactly k m (judged-exactly .0 a .accepts .header) left (judged-table a)
+  pub called-void : v ≡ accepted → (r : ℕ) → r < rows t′ → (rowStanding t′ r ≡ void) ↔ (Report m t′ r × (10 < points m t′ r))
+  called-void a = void-exactly k m (called-exactly .0 a .1 .accepts .header) t′ (called-table a)
 
--- ---- the masker
+  -- with room for the copy it is what cleaner, builder and the form in parts are held to
+  called-judged : length m ≤ length c → Judged k m t v t′
+  called-judged l = record { answers = x .answers ∙ with-room k m (length c) (length t) l; table-left = x .table-left ∙ with-room-table k m (length c) t l }
 
-module _ {k : ℕ} {m lent : List ℕ} {v : Verdict} {left : List ℕ} (c : Masked k m lent v left) where
-  pub masked-in-its-case : (j : ℕ) → j < length maskNumbers → (v .code ≡ getD maskNumbers j 0) ↔ OwnWords (maskConditions book k m (length lent)) j
-  masked-in-its-case j l = rw (c .answers) (mask-in-its-case k m (length lent) j l)
+  accepted-judged : v ≡ accepted → Judged k m t v t′
+  accepted-judged a = called-judged (called-exactly .0 a .0)
 
-  pub masked-one-of : OneOf maskNumbers v
-  masked-one-of = rw (c .answers) (mask-one-of k m (length lent))
+  -- where a copy is made
+  module _ (made : Copies v) where
+    copies : Copies (callVerdict book k m (length c) (length t))
+    copies = rw (x .answers) at made
 
-  pub masked-refused : refuses v ≡ true → left ≡ lent
-  masked-refused e = c .copy-left ∙ refusal-leaves-copy k m lent (rw (c .answers) at e)
+    pub called-holds : (j : ℕ) → j < length m → getD c′ j 0 ≡ cond (covered book k m j) 0 (getD m j 0)
+    called-holds j l = rw (x .copy-left) (copy-holds k m t c copies j l)
 
-  pub masked-holds : v ≡ accepted → (j : ℕ) → j < length m → getD left j 0 ≡ cond (covered book k m j) 0 (getD m j 0)
-  masked-holds a j l = rw (c .copy-left) (copy-holds k m lent (rw (sym (c .answers) ∙ a)) j l)
+    pub called-stays : (j : ℕ) → length m ≤ j → getD c′ j 0 ≡ getD c j 0
+    called-stays j l = rw (x .copy-left) (copy-stays k m t c copies j l)
 
-  pub masked-stays : v ≡ accepted → (j : ℕ) → length m ≤ j → getD left j 0 ≡ getD lent j 0
-  masked-stays a j l = rw (c .copy-left) (copy-stays k m lent (rw (sym (c .answers) ∙ a)) j l)
+    called-front : take (length m) c′ ≡ masked book k m
+    called-front = copy-front book book-sound k m (framing k m t c copies) c (x .copy-left ∙ copy-writes k m (length t) c copies)
 
-  -- the copy judged with an equal table gets the message's own answers
-  pub masked-judged : v ≡ accepted → {t : List ℕ} {a d : Verdict} {l u : List ℕ} → Judged k m t a l → Judged k (take (length m) left) t d u → (d ≡ a) × (u ≡ l)
-  masked-judged e = two-judged k m (take (length m) left) (copied c e)
+    -- the copy handed to the call gets the message's own answers: those above with the buffers that were first lent, and so with any others
+    pub called-again : {w : Verdict} {u d : List ℕ} → Called k (take (length m) c′) t c w u d → (w ≡ v) × (u ≡ t′) × (d ≡ c′)
+    called-again = two-called (called-open k m (length t) c copies (x .copy-left)) x
+
+    -- so table and copy are of one message: the table is the copy's own
+    pub called-one-message : v ≡ accepted → IsTable book k (take (length m) c′) t′
+    called-one-message a = rw (x .copy-left) (copy-has-table k m t c copies (called-exactly .0 a .1 .accepts .header) t′ (called-table a))
+
+    pub called-again-with : {t₂ c₂ : List ℕ} {a w : Verdict} {l u e d : List ℕ} → Called k m t₂ c₂ a l e → Called k (take (length m) c′) t₂ c₂ w u d → (w ≡ a) × (u ≡ l) × (d ≡ e)
+    called-again-with = two-called (called-open k m (length t) c copies (x .copy-left))
 
 -- ---- the cleaner
 
@@ -442,16 +493,16 @@ module _ {k : ℕ} {m lent : List ℕ} {s : Sent} {left : List ℕ} (c : Cleans 
   pub cleaned-refused : refuses (s .verdict) ≡ true → (left ≡ lent) × (s .length ≡ 0)
   cleaned-refused = left-alone c
 
-  -- it refuses as the judge does with room for any table, all five numbers alike; then 13 exactly where the buffer is shorter than the cleaned copy
-  module _ {table : List ℕ} {v : Verdict} {rest : List ℕ} (j : Judged k m table v rest) (room : used mostRows ≤ length table) where
+  -- it refuses as the call does with room for the copy and for any table, all five numbers alike; then 13 exactly where the buffer is shorter than the cleaned copy
+  module _ {t₁ c₁ : List ℕ} {v : Verdict} {t₂ c₂ : List ℕ} (j : Called k m t₁ c₁ v t₂ c₂) (copy : length m ≤ length c₁) (room : used mostRows ≤ length t₁) where
     pub cleaned-as-judged : refuses v ≡ true → s .verdict ≡ v
-    cleaned-as-judged = refused-as-judged c j room
+    cleaned-as-judged = refused-as-judged c (called-judged j copy) room
 
     pub cleaned-exactly : (s .verdict ≡ accepted) ↔ ((v ≡ accepted) × (length (cleaned book k m) ≤ length lent))
-    cleaned-exactly = accepted-exactly c j room
+    cleaned-exactly = accepted-exactly c (called-judged j copy) room
 
     pub cleaned-thirteen : (s .verdict ≡ refused 13 0) ↔ ((v ≡ accepted) × (length lent < length (cleaned book k m)))
-    cleaned-thirteen = thirteen-by-room c j room
+    cleaned-thirteen = thirteen-by-room c (called-judged j copy) room
 
   module _ (a : s .verdict ≡ accepted) where
     -- the copy stands at the start of the buffer, with the length that is answered; what is past it stays
@@ -467,30 +518,38 @@ module _ {k : ℕ} {m lent : List ℕ} {s : Sent} {left : List ℕ} (c : Cleans 
     pub cleaned-shorter : s .length ≤ length m
     cleaned-shorter = no-longer c a
 
-    -- the copy is accepted on the same kind where the message is, with a table no shorter, every row kept: the message's kept rows in their order, with
-    -- their types, instances and values, parents numbered anew
-    pub cleaned-rows : {lent₁ lent₂ : List ℕ} {v w : Verdict} {t u : List ℕ} → Judged k m lent₁ v t → v ≡ accepted → Judged k (take (s .length) left) lent₂ w u
-        → length lent₁ ≤ length lent₂ → (w ≡ accepted) × CleanRows m t (take (s .length) left) u
-    cleaned-rows = clean-judged-as c a
+    -- the copy is accepted on the same kind where the message is, with a table no shorter and room for its own copy, every row kept: the message's kept rows in
+    -- their order, with their types, instances and values, parents numbered anew
+    pub cleaned-rows : {t₁ c₁ : List ℕ} {v : Verdict} {t d : List ℕ} → Called k m t₁ c₁ v t d → v ≡ accepted
+        → {t₂ c₂ : List ℕ} {w : Verdict} {u e : List ℕ} → Called k (take (s .length) left) t₂ c₂ w u e → length t₁ ≤ length t₂ → s .length ≤ length c₂
+        → (w ≡ accepted) × CleanRows m t (take (s .length) left) u
+    cleaned-rows x z y l r = clean-judged-as c a (accepted-judged x z) z (called-judged y (front-room (s .length) left r)) l
 
     -- cleaned again it is itself; and so is a message with every row kept
     pub cleaned-twice : {lent₂ : List ℕ} {s₂ : Sent} {left₂ : List ℕ} → Cleans k (take (s .length) left) lent₂ s₂ left₂ → s .length ≤ length lent₂
         → (s₂ .verdict ≡ accepted) × (s₂ .length ≡ s .length) × (take (s₂ .length) left₂ ≡ take (s .length) left)
     cleaned-twice = clean-once c a
 
-    pub cleaned-same : Octets m → {lent₁ : List ℕ} {v : Verdict} {t : List ℕ} → Judged k m lent₁ v t → v ≡ accepted → keptCount t ≡ rows t → take (s .length) left ≡ m
-    cleaned-same = whole-same c a
+    pub cleaned-same : Octets m → {t₁ c₁ : List ℕ} {v : Verdict} {t d : List ℕ} → Called k m t₁ c₁ v t d → v ≡ accepted → keptCount t ≡ rows t → take (s .length) left ≡ m
+    cleaned-same o x z = whole-same c a o (accepted-judged x z) z
 
     -- the header is as it came, but for its length
     pub cleaned-header : (j : ℕ) → j < headerLength m → j ≢ 2 → j ≢ 3 → octet left j ≡ octet m j
     cleaned-header = header-kept c a
 
-    -- cleaned and masked, either first, with room for the copy: both are made, and are the same
-    pub clean-and-mask : Octets m → {lent₂ : List ℕ} {v₂ : Verdict} {left₂ : List ℕ} → Masked k m lent₂ v₂ left₂ → v₂ ≡ accepted
-        → {lent₃ : List ℕ} {s₃ : Sent} {left₃ : List ℕ} → Cleans k (take (length m) left₂) lent₃ s₃ left₃ → s .length ≤ length lent₃
-        → {lent₄ : List ℕ} {v₄ : Verdict} {left₄ : List ℕ} → Masked k (take (s .length) left) lent₄ v₄ left₄ → s .length ≤ length lent₄
-        → (s₃ .verdict ≡ accepted) × (v₄ ≡ accepted) × (s₃ .length ≡ s .length) × (take (s₃ .length) left₃ ≡ take (s .length) left₄)
-    clean-and-mask = commutes c a
+    -- cleaned and masked, either first, with room: both are made, and are the same
+    pub clean-and-mask : Octets m → {t₂ c₂ : List ℕ} {v₂ : Verdict} {u₂ d₂ : List ℕ} → Called k m t₂ c₂ v₂ u₂ d₂ → Copies v₂
+        → {lent₃ : List ℕ} {s₃ : Sent} {left₃ : List ℕ} → Cleans k (take (length m) d₂) lent₃ s₃ left₃ → s .length ≤ length lent₃
+        → {t₄ c₄ : List ℕ} {v₄ : Verdict} {u₄ d₄ : List ℕ} → Called k (take (s .length) left) t₄ c₄ v₄ u₄ d₄ → length t₂ ≤ length t₄ → s .length ≤ length c₄
+        → (s₃ .verdict ≡ accepted) × (v₄ ≡ accepted) × (s₃ .length ≡ s .length) × (take (s₃ .length) left₃ ≡ take (s .length) d₄)
+    clean-and-mask o {t₂} {c₂} {v₂} {u₂} {d₂} x e {lent₃} {s₃} {left₃} y l {t₄} {c₄} {v₄} {u₄} {d₄} z h r =
+        let w = copies-exactly k m (length c₂) (length t₂) .0 (rw (x .answers) at e) in
+        let fit : used (length (items book k m)) ≤ length t₂ = omega (arith, fits book book-sound k m (length c₂) (length t₂) (w .1 .1 .0) (w .1 .1 .1), w .1 .1 .2) in
+        let f : v₄ ≡ accepted = cleaned-rows x (called-judged x (w .0) .answers ∙ accepted-too c a (length t₂) fit) z h r .0 in
+        let z′ : Called k (cleaned book k m) t₄ c₄ v₄ u₄ d₄ = rw cleaned-holds at z in
+        let back : take (s .length) d₄ ≡ masked book k (cleaned book k m) = rw cleaned-answers (called-front z′ (rw f)) in
+        let g = commutes c a o d₂ (called-front x e) y l d₄ back in
+        (g .0, f, g .1, g .2)
 
 -- ---- the builder
 
@@ -524,67 +583,108 @@ module _ {teid sequence : ℕ} {t values lent : List ℕ} {s : Sent} {left : Lis
     pub built-stays : drop (s .length) left ≡ drop (s .length) lent
     built-stays = build-past-stays c a
 
-    -- the judge accepts it on the table's kind with every row kept, and its rows are those given: parents, types, instances, and the values that are no group's
-    pub built-rows : {lent₂ : List ℕ} {w : Verdict} {u : List ℕ} → Judged (tableKind t) (take (s .length) left) lent₂ w u → used (rows t) ≤ length lent₂
+    -- the call accepts it on the table's kind with every row kept, and its rows are those given: parents, types, instances, and the values that are no group's
+    pub built-rows : {t₂ c₂ : List ℕ} {w : Verdict} {u d : List ℕ} → Called (tableKind t) (take (s .length) left) t₂ c₂ w u d → used (rows t) ≤ length t₂ → s .length ≤ length c₂
         → (w ≡ accepted) × SameRows t values (take (s .length) left) u
-    built-rows = built-judged c a
+    built-rows x l r = built-judged c a (called-judged x (front-room (s .length) left r)) l
 
     -- it has the table's type, the TEID and the sequence number that were given; and no bit is set that nothing reads, in its header or in an element's
     pub built-header : HasHead (tableType t) teid sequence (take (s .length) left)
     built-header = built-head c a
 
-    pub built-bits : {lent₂ : List ℕ} {w : Verdict} {u : List ℕ} → Judged (tableKind t) (take (s .length) left) lent₂ w u → used (rows t) ≤ length lent₂
+    pub built-bits : {t₂ c₂ : List ℕ} {w : Verdict} {u d : List ℕ} → Called (tableKind t) (take (s .length) left) t₂ c₂ w u d → used (rows t) ≤ length t₂ → s .length ≤ length c₂
         → ZeroBits (take (s .length) left) u
-    built-bits = built-zero c a
+    built-bits x l r = built-zero c a (called-judged x (front-room (s .length) left r)) l
 
--- a message that lost no row and has no bit set that nothing reads is what the builder makes of the judge's table of it, its own octets lent as
+-- a message that lost no row and has no bit set that nothing reads is what the builder makes of the call's table of it, its own octets lent as
 -- the values and its header's numbers given again, where there is room
-pub comes-back : {k : ℕ} {m lent₁ : List ℕ} {v : Verdict} {t : List ℕ} → Judged k m lent₁ v t → v ≡ accepted → keptCount t ≡ rows t → Octets m → ZeroBits m t
+pub comes-back : {k : ℕ} {m t₁ c₁ : List ℕ} {v : Verdict} {t d : List ℕ} → Called k m t₁ c₁ v t d → v ≡ accepted → keptCount t ≡ rows t → Octets m → ZeroBits m t
     → {lent : List ℕ} {s : Sent} {left : List ℕ} → Builds (teidOf m) (sequenceOf m) t m lent s left → length m ≤ length lent
     → (s .verdict ≡ accepted) × (s .length ≡ length m) × (take (s .length) left ≡ m)
-comes-back = rebuilt-same
+comes-back x a = rebuilt-same (accepted-judged x a) a
 
 -- ---- the exports: what the C receiver reads, two octets a number
 
-module _ {k : ℕ} {m lent lentFive : List ℕ} {code : ℕ} {left leftFive : List ℕ} (c : JudgedOctets k m lent lentFive code left leftFive) where
-  pub octets-in-its-case : (j : ℕ) → j < length judgeNumbers → (code ≡ getD judgeNumbers j 0) ↔ OwnWords (judgeConditions book k m (tableRoom lent)) j
-  octets-in-its-case j l = rw (c .answers) (judge-in-its-case k m (tableRoom lent) j l)
+-- a table lent as octets: the call is the one on the numbers read in them, so all that is said of the call holds of what is read
+module _ {k : ℕ} {m t c : List ℕ} {v : Verdict} {t′ c′ : List ℕ} (x : CalledStored k m t c v t′ c′) where
+  pub stored-called : Called k m (numbersIn t) c v (numbersIn t′) c′
+  stored-called = stored-as-called x
 
-  pub octets-one-of : (code ≡ 0) ⊎ (among code judgeNumbers ≡ true)
-  octets-one-of = rw (c .answers) (code-of judgeNumbers (judgeVerdict book k m (tableRoom lent)) (judge-one-of k m (tableRoom lent)))
+  -- it accepts exactly where the copy has room and a table is read that is accepted, in octets of the same length, and past those used they are as they were; on
+  -- any other verdict all are
+  pub stored-exactly : (v ≡ accepted) ↔ ((length m ≤ length c) × LeavesOctets book k m t t′)
+  stored-exactly = (stored-leaves x, leaves-stored x)
 
-  -- the code is 0 exactly where a table is read that is accepted, in octets of the same length, and past those used they are as they were; on any other all are
-  pub octets-exactly : (code ≡ 0) ↔ LeavesOctets book k m lent left
-  octets-exactly = (export-leaves k m lent lentFive code left leftFive c, leaves-export k m lent lentFive code left leftFive c)
+  pub stored-refused : refuses v ≡ true → t′ ≡ t
+  stored-refused = stored-stays x
 
-  pub octets-refused : 0 < code → left ≡ lent
-  octets-refused = export-refused k m lent lentFive code left leftFive c
+  pub stored-again : Copies v → {w : Verdict} {u d : List ℕ} → CalledStored k (take (length m) c′) t c w u d → (w ≡ v) × (u ≡ t′) × (d ≡ c′)
+  stored-again made = two-stored (called-open k m (tableRoom t) c (rw (x .answers) at made) (x .copy-left)) x
+
+-- the export to C
+module _ {k : ℕ} {m t c f : List ℕ} {code : ℕ} {t′ c′ f′ : List ℕ} (x : CalledOctets k m t c f code t′ c′ f′) where
+  abbrev verdict : Verdict
+  verdict = callVerdict book k m (length c) (tableRoom t)
+
+  stored : CalledStored k m t c verdict t′ c′
+  stored = octets-stored x
+
+  is-accepted : code ≡ 0 → verdict ≡ accepted
+  is-accepted e = zero-accepted callNumbers refl verdict (call-one-of k m (length c) (tableRoom t)) (sym (x .answers) ∙ e)
+
+  pub octets-in-its-case : (j : ℕ) → j < length callNumbers → (code ≡ getD callNumbers j 0) ↔ OwnWords (callConditions book k m (length c) (tableRoom t)) j
+  octets-in-its-case j l = rw (x .answers) (call-in-its-case k m (length c) (tableRoom t) j l)
+
+  pub octets-one-of : (code ≡ 0) ⊎ (among code callNumbers ≡ true)
+  octets-one-of = rw (x .answers) (code-of callNumbers verdict (call-one-of k m (length c) (tableRoom t)))
+
+  -- the export leaves what the call leaves: the code is its verdict's, the copy is equal, and the table's numbers are those
+  pub octets-called : {v : Verdict} {u d : List ℕ} → Called k m (numbersIn t) c v u d → (code ≡ v .code) × (numbersIn t′ ≡ u) × (c′ ≡ d)
+  octets-called y =
+      let z = stored-called stored in
+      (x .answers ∙ ap (λ (w : Verdict). w .code) (z .answers ∙ sym (y .answers)), z .table-left ∙ sym (y .table-left), z .copy-left ∙ sym (y .copy-left))
+
+  -- the code is 0 exactly where the copy has room and a table is read that is accepted, in octets of the same length, and past those used they are as they were
+  pub octets-exactly : (code ≡ 0) ↔ ((length m ≤ length c) × LeavesOctets book k m t t′)
+  octets-exactly = (λ e. stored-exactly stored .0 (is-accepted e), λ y. x .answers ∙ ap (λ (w : Verdict). w .code) (stored-exactly stored .1 y))
+
+  -- on any other the table's octets stay, and so does the copy unless it is 11 or 12
+  pub octets-refused : 0 < code → t′ ≡ t
+  octets-refused l = stored-refused stored (lt-ltb 0 (verdict .code) (rw (x .answers) at l))
+
+  pub octets-copy-stays : (among code copyingNumbers ≡ true → ⊥) → c′ ≡ c
+  octets-copy-stays off = called-copy-stays (stored-called stored) (λ z. off (rw (x .answers) z))
 
   -- the five numbers that are read are the verdict's, the code first, if there is room for them; else nothing is written
-  pub octets-five : fiveOctets ≤ length lentFive → take 5 (numbersIn leftFive) ≡ five (judgeVerdict book k m (tableRoom lent))
-  octets-five = five-read lentFive leftFive (judgeVerdict book k m (tableRoom lent)) (c .five-left)
+  pub octets-five : fiveOctets ≤ length f → take 5 (numbersIn f′) ≡ five (callVerdict book k m (length c) (tableRoom t))
+  octets-five = five-read f f′ verdict (x .five-left)
 
-  pub octets-five-short : length lentFive < fiveOctets → leftFive ≡ lentFive
-  octets-five-short = five-short lentFive leftFive (judgeVerdict book k m (tableRoom lent)) (c .five-left)
+  pub octets-five-short : length f < fiveOctets → f′ ≡ f
+  octets-five-short = five-short f f′ verdict (x .five-left)
 
-module _ {k : ℕ} {m lent lentFive : List ℕ} {code : ℕ} {left leftFive : List ℕ} (c : MaskedOctets k m lent lentFive code left leftFive) where
-  pub mask-octets-one-of : (code ≡ 0) ⊎ (among code maskNumbers ≡ true)
-  mask-octets-one-of = rw (c .answers) (code-of maskNumbers (maskVerdict book k m (length lent)) (mask-one-of k m (length lent)))
+  -- octets past the ten stay
+  pub octets-five-stay : (i : ℕ) → fiveOctets ≤ i → getD f′ i 0 ≡ getD f i 0
+  octets-five-stay = five-stays f f′ verdict (x .five-left)
 
-  -- the masker's export leaves the copy that the masker leaves
-  pub mask-octets-masked : (v : Verdict) (copy : List ℕ) → Masked k m lent v copy → (code ≡ v .code) × (left ≡ copy)
-  mask-octets-masked v copy x = (c .answers ∙ sym (ap (λ (w : Verdict). w .code) (x .answers)), c .copy-left ∙ sym (x .copy-left))
+  -- a copy that is made
+  module _ (made : among code copyingNumbers ≡ true) where
+    copies-too : Copies verdict
+    copies-too = rw (x .answers) at made
 
-  pub mask-octets-five : fiveOctets ≤ length lentFive → take 5 (numbersIn leftFive) ≡ five (maskVerdict book k m (length lent))
-  mask-octets-five = five-read lentFive leftFive (maskVerdict book k m (length lent)) (c .five-left)
+    pub octets-holds : (j : ℕ) → j < length m → getD c′ j 0 ≡ cond (covered book k m j) 0 (getD m j 0)
+    octets-holds = called-holds (stored-called stored) copies-too
 
-  pub mask-octets-five-short : length lentFive < fiveOctets → leftFive ≡ lentFive
-  mask-octets-five-short = five-short lentFive leftFive (maskVerdict book k m (length lent)) (c .five-left)
+    pub octets-stays : (j : ℕ) → length m ≤ j → getD c′ j 0 ≡ getD c j 0
+    octets-stays = called-stays (stored-called stored) copies-too
 
-  -- the copy judged through the export with equal buffers gets the message's own code, table octets and five numbers
-  pub mask-octets-judged : code ≡ 0 → {t f : List ℕ} {a d : ℕ} {l u g h : List ℕ} → JudgedOctets k m t f a l g → JudgedOctets k (take (length m) left) t f d u h
-      → (d ≡ a) × (u ≡ l) × (h ≡ g)
-  mask-octets-judged e = two-judged-octets k m (take (length m) left) (copied-octets c e)
+    -- handed to the export it gets the message's own code, table octets, copy and five numbers: those above with the buffers that were first lent, and so with
+    -- any others
+    pub octets-again : {d : ℕ} {u e g : List ℕ} → CalledOctets k (take (length m) c′) t c f d u e g → (d ≡ code) × (u ≡ t′) × (e ≡ c′) × (g ≡ f′)
+    octets-again = two-octets (called-open k m (tableRoom t) c copies-too (x .copy-left)) x
+
+    pub octets-again-with : {t₂ c₂ f₂ : List ℕ} {a d : ℕ} {l u o e h g : List ℕ} → CalledOctets k m t₂ c₂ f₂ a l o h → CalledOctets k (take (length m) c′) t₂ c₂ f₂ d u e g
+        → (d ≡ a) × (u ≡ l) × (e ≡ o) × (g ≡ h)
+    octets-again-with = two-octets (called-open k m (tableRoom t) c copies-too (x .copy-left))
 
 module _ {k : ℕ} {m lent lentAnswer : List ℕ} {code : ℕ} {left leftAnswer : List ℕ} (c : CleanedOctets k m lent lentAnswer code left leftAnswer) where
   -- the cleaner's export leaves the copy that the cleaner leaves
@@ -634,43 +734,41 @@ module _ {teid sequence : ℕ} {t values lent lentAnswer : List ℕ} {code : ℕ
 -- ---- two messages of one length that differ in covered octets alone, and equal buffers
 
 module _ {k : ℕ} {m n : List ℕ} (s : SameOpen book k m n) where
-  pub both-judged : {t : List ℕ} {v w : Verdict} {l u : List ℕ} → Judged k m t v l → Judged k n t w u → (w ≡ v) × (u ≡ l)
-  both-judged = two-judged k m n s
+  pub both-called : {t c : List ℕ} {v w : Verdict} {t₁ t₂ c₁ c₂ : List ℕ} → Called k m t c v t₁ c₁ → Called k n t c w t₂ c₂ → (w ≡ v) × (t₂ ≡ t₁) × (c₂ ≡ c₁)
+  both-called = two-called s
 
-  pub both-masked : {c : List ℕ} {v w : Verdict} {l u : List ℕ} → Masked k m c v l → Masked k n c w u → (w ≡ v) × (u ≡ l)
-  both-masked = two-masked k m n s
+  pub both-stored : {t c : List ℕ} {v w : Verdict} {t₁ t₂ c₁ c₂ : List ℕ} → CalledStored k m t c v t₁ c₁ → CalledStored k n t c w t₂ c₂ → (w ≡ v) × (t₂ ≡ t₁) × (c₂ ≡ c₁)
+  both-stored = two-stored s
 
-  pub both-judged-octets : {t f : List ℕ} {c d : ℕ} {l u g h : List ℕ} → JudgedOctets k m t f c l g → JudgedOctets k n t f d u h → (d ≡ c) × (u ≡ l) × (h ≡ g)
-  both-judged-octets = two-judged-octets k m n s
+  pub both-octets : {t c f : List ℕ} {d e : ℕ} {t₁ t₂ c₁ c₂ f₁ f₂ : List ℕ} → CalledOctets k m t c f d t₁ c₁ f₁ → CalledOctets k n t c f e t₂ c₂ f₂
+      → (e ≡ d) × (t₂ ≡ t₁) × (c₂ ≡ c₁) × (f₂ ≡ f₁)
+  both-octets = two-octets s
 
-  pub both-masked-octets : {o f : List ℕ} {c d : ℕ} {l u g h : List ℕ} → MaskedOctets k m o f c l g → MaskedOctets k n o f d u h → (d ≡ c) × (u ≡ l) × (h ≡ g)
-  both-masked-octets = two-masked-octets k m n s
+-- ---- the lookups, on a table that the call wrote
 
--- ---- the lookups, on a table that the judge wrote
-
-module _ {k : ℕ} {lent : List ℕ} {v : Verdict} {left : List ℕ} (message : RefT (List ℕ)) (c : Judged k (now message) lent v left) (a : v ≡ accepted) where
+module _ {k : ℕ} {t₁ c₁ : List ℕ} {v : Verdict} {left c₂ : List ℕ} (message : RefT (List ℕ)) (c : Called k (now message) t₁ c₁ v left c₂) (a : v ≡ accepted) where
   -- the desk's, with a copy of the message's length and either right: it finds each row below the count and no other, and answers where its value stands
   module _ (copy : RefT (List ℕ)) (same : length (now copy) ≡ length (now message)) (right : Bool) (r : ℕ) where
     pub desk-finds : (answer : Bool) → DeskFound k r right (now message) (now copy) left answer → (answer ≡ true) ↔ (r < rows left)
-    desk-finds answer e = rw e (desk-found book k (now message) left (judged-table c a) (length (now copy)) same r)
+    desk-finds answer e = rw e (desk-found book k (now message) left (called-table c a) (length (now copy)) same r)
 
     pub desk-answers : r < rows left → (part : RefT (List ℕ)) → Desk k r right message copy left part → Stands (cond right message copy) (valueOf left r) part
-    desk-answers l part d = rw (desk-span book k (now message) left (judged-table c a) (length (now copy)) same r l) at d
+    desk-answers l part d = rw (desk-span book k (now message) left (called-table c a) (length (now copy)) same r l) at d
 
   -- the plain one: it finds a pair exactly where a kept row with parent 0 has it, and answers where the first such row's value stands
   pub plain-finds : (y i : ℕ) (answer : Bool) → PlainFound k y i (now message) left answer → (answer ≡ true) ↔ ((r : ℕ) × TopRow left y i r)
-  plain-finds y i answer e = rw e (plain-found book k (now message) left (judged-table c a) y i)
+  plain-finds y i answer e = rw e (plain-found book k (now message) left (called-table c a) y i)
 
   pub plain-answers : (y i r : ℕ) → FirstTopRow left y i r → (part : RefT (List ℕ)) → Plain k y i message left part → Stands message (valueOf left r) part
-  plain-answers y i r f part d = rw (plain-span book k (now message) left (judged-table c a) y i r f) at d
+  plain-answers y i r f part d = rw (plain-span book k (now message) left (called-table c a) y i r f) at d
 
   -- the table agrees with itself, and names the message's type and the kind
-  pub judged-agrees : (isOf k (now message) left ≡ true) × (tableType left ≡ messageType (now message)) × (tableKind left ≡ k)
-  judged-agrees = let t = judged-table c a in (is-of book k (now message) left t, t .right .of .of-type, t .right .of .of-kind)
+  pub called-agrees : (isOf k (now message) left ≡ true) × (tableType left ≡ messageType (now message)) × (tableKind left ≡ k)
+  called-agrees = let t = called-table c a in (is-of book k (now message) left t, t .right .of .of-type, t .right .of .of-kind)
 
   -- and such a part lies in the message
   pub found-in-message : (r : ℕ) → r < rows left → rowEnd left r ≤ length (now message)
-  found-in-message = row-in-message k (now message) left (judged-table c a)
+  found-in-message = row-in-message k (now message) left (called-table c a)
 
 -- ---- the lookups, on a table of something else: its header disagrees with itself, or names another kind or another type than the message's, or the
 -- message has none. Neither finds anything, and the part answered is the empty one at the start.

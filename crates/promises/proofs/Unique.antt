@@ -5,7 +5,7 @@ use mathlib.Core.List.{List}
 use Prim.Native.Nat.{ℕ}
 use denote.Ref.{RefT, now, ptr}
 use Rattle.rules.specs.Values.{Stands}
-use Rattle.rules.specs.Answers.{Read, Decided, Judged, Masked, Cleans, Builds, Plain, PlainFound, Desk, DeskFound, JudgedOctets, MaskedOctets, CleanedOctets, BuiltOctets}
+use Rattle.rules.specs.Answers.{Read, Decided, Called, CalledStored, Cleans, Builds, Plain, PlainFound, Desk, DeskFound, CalledOctets, CleanedOctets, BuiltOctets}
 use Rattle.rules.specs.Program.{Written}
 use Rattle.rules.specs.declared.Verdict.{Verdict}
 use Rattle.rules.specs.declared.Reading.{Reading}
@@ -20,14 +20,16 @@ both e f = e ∙ sym f
 pub read-unique : (k : ℕ) (m rows : List ℕ) (r r′ : Reading) (l l′ : List ℕ) → Read k m rows r l → Read k m rows r′ l′ → (r ≡ r′) × (l ≡ l′)
 read-unique k m rows r r′ l l′ x y = (both (x .answers) (y .answers), both (x .rows-left) (y .rows-left))
 
-pub decided-unique : (k : ℕ) (m rows : List ℕ) (room : ℕ) (r r′ : Decision) (l l′ : List ℕ) → Decided k m rows room r l → Decided k m rows room r′ l′ → (r ≡ r′) × (l ≡ l′)
-decided-unique k m rows room r r′ l l′ x y = (both (x .answers) (y .answers), both (x .rows-left) (y .rows-left))
+pub decided-unique : (k : ℕ) (m rows : List ℕ) (room : ℕ) (c : List ℕ) (r r′ : Decision) (l l′ d d′ : List ℕ) → Decided k m rows room c r l d → Decided k m rows room c r′ l′ d′
+    → (r ≡ r′) × (l ≡ l′) × (d ≡ d′)
+decided-unique k m rows room c r r′ l l′ d d′ x y = (both (x .answers) (y .answers), both (x .rows-left) (y .rows-left), both (x .copy-left) (y .copy-left))
 
-pub judged-unique : (k : ℕ) (m t : List ℕ) (r r′ : Verdict) (l l′ : List ℕ) → Judged k m t r l → Judged k m t r′ l′ → (r ≡ r′) × (l ≡ l′)
-judged-unique k m t r r′ l l′ x y = (both (x .answers) (y .answers), both (x .table-left) (y .table-left))
+pub called-unique : (k : ℕ) (m t c : List ℕ) (r r′ : Verdict) (l l′ d d′ : List ℕ) → Called k m t c r l d → Called k m t c r′ l′ d′ → (r ≡ r′) × (l ≡ l′) × (d ≡ d′)
+called-unique k m t c r r′ l l′ d d′ x y = (both (x .answers) (y .answers), both (x .table-left) (y .table-left), both (x .copy-left) (y .copy-left))
 
-pub masked-unique : (k : ℕ) (m c : List ℕ) (r r′ : Verdict) (l l′ : List ℕ) → Masked k m c r l → Masked k m c r′ l′ → (r ≡ r′) × (l ≡ l′)
-masked-unique k m c r r′ l l′ x y = (both (x .answers) (y .answers), both (x .copy-left) (y .copy-left))
+pub called-stored-unique : (k : ℕ) (m t c : List ℕ) (r r′ : Verdict) (l l′ d d′ : List ℕ) → CalledStored k m t c r l d → CalledStored k m t c r′ l′ d′
+    → (r ≡ r′) × (l ≡ l′) × (d ≡ d′)
+called-stored-unique k m t c r r′ l l′ d d′ x y = (both (x .answers) (y .answers), both (x .table-left) (y .table-left), both (x .copy-left) (y .copy-left))
 
 pub cleaned-unique : (k : ℕ) (m c : List ℕ) (r r′ : Sent) (l l′ : List ℕ) → Cleans k m c r l → Cleans k m c r′ l′ → (r .verdict ≡ r′ .verdict) × (r .length ≡ r′ .length) × (l ≡ l′)
 cleaned-unique k m c r r′ l l′ x y = (both (x .verdict-is) (y .verdict-is), both (x .length-is) (y .length-is), both (x .out-left) (y .out-left))
@@ -57,13 +59,10 @@ plain-found-unique k t i m table r r′ x y = both x y
 pub desk-found-unique : (k row : ℕ) (right : Bool) (m c table : List ℕ) (r r′ : Bool) → DeskFound k row right m c table r → DeskFound k row right m c table r′ → r ≡ r′
 desk-found-unique k row right m c table r r′ x y = both x y
 
-pub judged-octets-unique : (k : ℕ) (m t five : List ℕ) (r r′ : ℕ) (l l′ f f′ : List ℕ) → JudgedOctets k m t five r l f → JudgedOctets k m t five r′ l′ f′
-    → (r ≡ r′) × (l ≡ l′) × (f ≡ f′)
-judged-octets-unique k m t five r r′ l l′ f f′ x y = (both (x .answers) (y .answers), both (x .table-left) (y .table-left), both (x .five-left) (y .five-left))
-
-pub masked-octets-unique : (k : ℕ) (m c five : List ℕ) (r r′ : ℕ) (l l′ f f′ : List ℕ) → MaskedOctets k m c five r l f → MaskedOctets k m c five r′ l′ f′
-    → (r ≡ r′) × (l ≡ l′) × (f ≡ f′)
-masked-octets-unique k m c five r r′ l l′ f f′ x y = (both (x .answers) (y .answers), both (x .copy-left) (y .copy-left), both (x .five-left) (y .five-left))
+pub called-octets-unique : (k : ℕ) (m t c five : List ℕ) (r r′ : ℕ) (l l′ d d′ f f′ : List ℕ) → CalledOctets k m t c five r l d f → CalledOctets k m t c five r′ l′ d′ f′
+    → (r ≡ r′) × (l ≡ l′) × (d ≡ d′) × (f ≡ f′)
+called-octets-unique k m t c five r r′ l l′ d d′ f f′ x y =
+    (both (x .answers) (y .answers), both (x .table-left) (y .table-left), both (x .copy-left) (y .copy-left), both (x .five-left) (y .five-left))
 
 pub cleaned-octets-unique : (k : ℕ) (m c answer : List ℕ) (r r′ : ℕ) (l l′ f f′ : List ℕ) → CleanedOctets k m c answer r l f → CleanedOctets k m c answer r′ l′ f′
     → (r ≡ r′) × (l ≡ l′) × (f ≡ f′)

@@ -26,7 +26,7 @@ use Rattle.rules.proofs.Lines.{and-left, and-right, seek-lists, lists-is, every
 use Rattle.rules.proofs.Covers.{free-exceeds, group-least}
 use Rattle.rules.proofs.Header.{Passed}
 use Rattle.rules.proofs.Rows.{header-least}
-use Rattle.rules.specs.Verdicts.{judgeVerdict}
+use Rattle.rules.specs.Verdicts.{refused, callVerdict}
 use Rattle.rules.specs.declared.Verdict.{Verdict}
 use Rattle.tables.specs.Words.{firstValue, rows, rowStart, rowEnd, IsLevel}
 use Rattle.tables.specs.Levels.{lineAt, levelOf, levelPlace}
@@ -41,6 +41,8 @@ use Rattle.tables.proofs.Rowed.{level-of, count-of}
 use Rattle.verdicts.specs.Missing.{Lacks}
 use Rattle.verdicts.proofs.Completeness.{complete}
 use Rattle.verdicts.proofs.Body.{in-body}
+use Rattle.verdicts.proofs.Cases.{call-says}
+use Rattle.verdicts.proofs.Calling.{roomy, thirteen}
 use Rattle.verdicts.proofs.Refusing.{Outcome, no-room, too-short, missing, right, outcome}
 use Rattle.promises.specs.Voids.{Report, points}
 
@@ -274,6 +276,10 @@ module _ (b : Book) (fine : sound b ≡ true) (k : ℕ) (m t : List ℕ) (x : Is
   pub void-lacks : (j : ℕ) → Lacks b k (bodyLevel b m) t (suc q) j → ⊥
   void-lacks j c = no-level (level-group b fine k (bodyLevel b m) t q l (backward b k m t (x .right) q l) (c .level))
 
+  -- it begins behind the message's header
+  begins-late : 0 < rowStart t q
+  begins-late = omega (arith, in-body b fine k m t (x .right) 0 (λ o g j a c h. absurd (omega arith)) q l, header-least m)
+
   -- 11 and 12 name no place in it
   abbrev Outside : ℕ → Type 0
   Outside place = (place < rowStart t q) ⊎ (rowEnd t q ≤ place)
@@ -293,12 +299,19 @@ module _ (b : Book) (fine : sound b ≡ true) (k : ℕ) (m t : List ℕ) (x : Is
   named-outside p room (missing u s o j f) c = go o (f .lacks)
     where
       go : (o : ℕ) → Lacks b k (bodyLevel b m) t o j → Outside (levelPlace b k (bodyLevel b m) t o)
-      go zero d = inl (omega (arith, in-body b fine k m t (x .right) 0 (λ o g j a c h. absurd (omega arith)) q l, header-least m))
+      go zero d = inl begins-late
       go (suc r) d =
           let h = level-row p r (d .level) in
           let g = level-group b fine k (bodyLevel b m) t r h (backward b k m t (x .right) r h) (d .level) in
           void-apart r h (λ z. omega (arith, e, g .stand, ap (rowStanding t) z))
   named-outside p room (right u s n) c = absurd (omega arith)
 
-  pub never-named : Passed b k m → (room : ℕ) → 11 ≤ judgeVerdict b k m room .code → Outside (judgeVerdict b k m room .place)
-  never-named p room c = named-outside p room (outcome b fine k m p t x room) c
+  -- 13, which stands behind 12 by its number, names the place 0
+  pub never-named : Passed b k m → (octets room : ℕ) → 11 ≤ callVerdict b k m octets room .code → Outside (callVerdict b k m octets room .place)
+  never-named p octets room c = go (decLt octets (length m))
+    where
+      go : Dec (octets < length m) → Outside (callVerdict b k m octets room .place)
+      go (yes h) =
+          let z : callVerdict b k m octets room ≡ refused 13 0 = call-says b fine k m room octets 9 (omega arith) (thirteen b fine k m octets room .1 (h, (p, (t, x)))) in
+          rw z (inl begins-late)
+      go (no h) = let z = roomy b fine k m octets room (omega arith) in rw z (named-outside p room (outcome b fine k m p t x room) (rw z at c))

@@ -7,8 +7,8 @@ use lib.ListN.{length, take, drop}
 use denote.Ref.{RefT, now}
 use Rattle.rules.specs.Framing.{octet}
 use Rattle.rules.specs.Listings.{Book}
-use Rattle.rules.specs.Verdicts.{judgeTable}
-use Rattle.rules.specs.Covered.{covered, maskCopy}
+use Rattle.rules.specs.Verdicts.{callTable}
+use Rattle.rules.specs.Covered.{covered, callCopy}
 use Rattle.rules.specs.Values.{deskSpan}
 use Rattle.rules.specs.Answers.{Desk}
 use Rattle.rules.specs.declared.Span.{Span}
@@ -19,15 +19,15 @@ pub record SameOpen (b : Book) (k : ℕ) (m n : List ℕ) : Type 0 where
   pub octets : (j : ℕ) → j < length m → covered b k m j ≡ false → octet m j ≡ octet n j
 
 module _ (b : Book) (k : ℕ) (copy table : List ℕ) (row : ℕ) where
-  -- where the desk's lookup finds the row's value, with the copy and the table that the masker and the judge leave of m in these buffers
+  -- where the desk's lookup finds the row's value, with the copy and the table that the one call leaves of m in these buffers
   abbrev pub deskPlace : List ℕ → Span
-  deskPlace m = deskSpan k row m (length (maskCopy b k m copy)) (judgeTable b k m table)
+  deskPlace m = deskSpan k row m (length (callCopy b k m (length table) copy)) (callTable b k m (length copy) table)
 
   -- and the octets that it answers without the right
   abbrev pub deskOctets : List ℕ → List ℕ
-  deskOctets m = take (deskPlace m .len) (drop (deskPlace m .start) (maskCopy b k m copy))
+  deskOctets m = take (deskPlace m .len) (drop (deskPlace m .start) (callCopy b k m (length table) copy))
 
   -- the same in the words of the lookup's contract
   pub record AtDesk (message copied part : RefT (List ℕ)) : Type 0 where
-    pub copied-is : now copied ≡ maskCopy b k (now message) copy
-    pub answered : Desk k row false message copied (judgeTable b k (now message) table) part
+    pub copied-is : now copied ≡ callCopy b k (now message) (length table) copy
+    pub answered : Desk k row false message copied (callTable b k (now message) (length copy) table) part

@@ -1,4 +1,4 @@
--- What the lookups find in a table that the judge wrote, and in any other. Assumes nothing.
+-- What the lookups find in a table that the one call wrote, and in any other. Assumes nothing.
 use mathlib.Core.Path.{_≡_}
 use mathlib.Core.Logic.{_⊎_, _≢_}
 use mathlib.Core.Bool.{Bool, true, _||_}

@@ -1,4 +1,4 @@
--- Functions that stand in for a judge, a masker, a cleaner, a builder or a lookup: what it means that one meets its contract. They are asked no more than the code is: of a kind
+-- Functions that stand in for the one call, a cleaner, a builder or a lookup: what it means that one meets its contract. They are asked no more than the code is: of a kind
 -- of 32 bits, octets, and numbers of 16 bits. Assumes nothing.
 use mathlib.Core.Path.{_≡_}
 use mathlib.Core.Bool.{Bool, true, cond, _&&_}
@@ -15,7 +15,7 @@ use Rattle.rules.specs.Covered.{zeroed, cleared}
 use Rattle.rules.specs.Emitting.{Piece, emitted, written}
 use Rattle.rules.specs.Cleaned.{pieces}
 use Rattle.rules.specs.Built.{firstOf, givenRows, hasTeid, restGiven}
-use Rattle.rules.specs.Answers.{Judged, Masked, Cleans, Builds, Plain, Desk}
+use Rattle.rules.specs.Answers.{Called, Cleans, Builds, Plain, Desk}
 use Rattle.rules.specs.declared.Verdict.{Verdict}
 use Rattle.rules.specs.declared.Sent.{Sent}
 
@@ -36,25 +36,29 @@ kindBound = 4294967296
 abbrev pub rowBound : ℕ
 rowBound = 18446744073709551616
 
--- from kind, message and what is lent, a verdict and what is left
+-- from kind, message, and the table and copy that are lent, a verdict and what is left in these
 pub record Answer : Type 0 where
   pub verdict : Verdict
-  pub left : List ℕ
+  pub table : List ℕ
+  pub copy : List ℕ
 
 abbrev pub Function : Type 0
-Function = ℕ → List ℕ → List ℕ → Answer
+Function = ℕ → List ℕ → List ℕ → List ℕ → Answer
+
+pub record Asked (k : ℕ) (m t c : List ℕ) : Type 0 where
+  pub kind : ltb k kindBound ≡ true
+  pub octets : below octetBound m ≡ true
+  pub numbers : below numberBound t ≡ true
+  pub copied : below octetBound c ≡ true
+
+abbrev pub IsCall : Function → Type 0
+IsCall f = (k : ℕ) (m t c : List ℕ) → Asked k m t c → Called k m t c (f k m t c .verdict) (f k m t c .table) (f k m t c .copy)
 
 -- what the code can be given: a kind, a message, and something lent whose numbers are below a bound
 pub record Given (bound k : ℕ) (m lent : List ℕ) : Type 0 where
   pub kind : ltb k kindBound ≡ true
   pub octets : below octetBound m ≡ true
   pub numbers : below bound lent ≡ true
-
-abbrev pub IsJudge : Function → Type 0
-IsJudge f = (k : ℕ) (m t : List ℕ) → Given numberBound k m t → Judged k m t (f k m t .verdict) (f k m t .left)
-
-abbrev pub IsMasker : Function → Type 0
-IsMasker f = (k : ℕ) (m c : List ℕ) → Given octetBound k m c → Masked k m c (f k m c .verdict) (f k m c .left)
 
 -- from kind, message and a buffer, what is answered and what is left
 pub record Writing : Type 0 where

@@ -2,17 +2,19 @@
 --     first-append   first of two lists of checks
 --     all-pass       none applies exactly where acceptance is given
 --     in-its-case    where each check has a number of its own, a number is given exactly where its check applies and none before it does
-use mathlib.Core.Path.{_≡_, refl, sym, ap, _∙_}
+use mathlib.Core.Path.{_≡_, refl, sym, _∙_}
 use mathlib.Core.Logic.{_⊎_, inl, inr, _↔_}
-use mathlib.Core.Bool.{Bool, true, false, cond}
+use mathlib.Core.Bool.{Bool, true, false, cond, not, _&&_, or-true}
 use mathlib.Core.List.{List, [], _∷_, _++_}
-use Prim.Native.Nat.{ℕ, zero, suc, _+_, _≤_, _<_}
+use Prim.Native.Nat.{ℕ, zero, suc, _<_}
 use native.Mathlib.Omega.{arith}
-use borrow.Author.Tests.{ltb-true, ltb-false, lt-ltb, le-ltb}
-use lib.Dec.{ltb}
+use borrow.Author.Tests.{ltb-true, eq-eqb}
+use lib.Dec.{eqb, ltb}
 use lib.ListN.{length, getD}
+use Rattle.rules.specs.Types.{among}
 use Rattle.rules.specs.Verdicts.{accepted, check, refuses, first}
 use Rattle.rules.specs.declared.Verdict.{Verdict}
+use Rattle.rules.proofs.Lines.{and-left, and-right, not-both}
 
 append-case : (us vs : List Verdict) (u : Verdict) (r : Bool) → refuses u ≡ r → first (us ++ vs) ≡ cond (refuses (first us)) (first us) (first vs)
     → cond r u (first (us ++ vs)) ≡ cond (refuses (cond r u (first us))) (cond r u (first us)) (first vs)
@@ -60,87 +62,94 @@ first-pass (v ∷ vs) a = rw (a .0) (first-pass vs (a .1))
 
 -- ---- numbers of their own
 
--- check by check, the number is the one in the list where the check applies; the numbers rise, from above lo
-unfoldable pub Numbered : ℕ → List ℕ → List Verdict → Type 0
-Numbered lo [] [] = Unit {0}
-Numbered lo [] (v ∷ vs) = ⊥
-Numbered lo (n ∷ ns) [] = ⊥
-Numbered lo (n ∷ ns) (v ∷ vs) = (lo < n) × ((v .code ≡ 0) ⊎ (v .code ≡ n)) × Numbered n ns vs
+-- check by check, the number is the one in the list where the check applies
+unfoldable pub Numbered : List ℕ → List Verdict → Type 0
+Numbered [] [] = Unit {0}
+Numbered [] (v ∷ vs) = ⊥
+Numbered (n ∷ ns) [] = ⊥
+Numbered (n ∷ ns) (v ∷ vs) = ((v .code ≡ 0) ⊎ (v .code ≡ n)) × Numbered ns vs
 
--- the last of the numbers, or lo
-unfoldable pub lastNumber : ℕ → List ℕ → ℕ
-lastNumber lo [] = lo
-lastNumber lo (n ∷ ns) = lastNumber n ns
+-- none of the numbers is 0, and none stands twice
+unfoldable pub separate : List ℕ → Bool
+separate [] = true
+separate (n ∷ ns) = ltb 0 n && (not (among n ns) && separate ns)
 
-pub numbered-append : (lo : ℕ) (ns ms : List ℕ) (vs ws : List Verdict) → Numbered lo ns vs → Numbered (lastNumber lo ns) ms ws → Numbered lo (ns ++ ms) (vs ++ ws)
-unfolding Numbered lastNumber
-numbered-append lo [] ms [] ws a c = c
-numbered-append lo [] ms (v ∷ vs) ws a c = absurd a
-numbered-append lo (n ∷ ns) ms [] ws a c = absurd a
-numbered-append lo (n ∷ ns) ms (v ∷ vs) ws a c = (a .0, a .1, numbered-append n ns ms vs ws (a .2) c)
-
-pub above : (lo : ℕ) (ns : List ℕ) (vs : List Verdict) → Numbered lo ns vs → (first vs .code ≡ 0) ⊎ (lo < first vs .code)
-unfolding first Numbered
-above lo [] [] a = inl refl
-above lo [] (v ∷ vs) a = absurd a
-above lo (n ∷ ns) [] a = absurd a
-above lo (n ∷ ns) (v ∷ vs) a = go (refuses v) refl (a .1) (above n ns vs (a .2))
-  where
-    go : (r : Bool) → refuses v ≡ r → (v .code ≡ 0) ⊎ (v .code ≡ n) → (first vs .code ≡ 0) ⊎ (n < first vs .code)
-        → (cond r v (first vs) .code ≡ 0) ⊎ (lo < cond r v (first vs) .code)
-    go true e (inl z) w = inl z
-    go true e (inr z) w = inr (omega (arith, a .0))
-    go false e x (inl z) = inl z
-    go false e x (inr z) = inr (omega (arith, a .0))
-
-higher : (lo : ℕ) (ns : List ℕ) (vs : List Verdict) → Numbered lo ns vs → (j : ℕ) → j < length ns → lo < getD ns j 0
+pub numbered-append : (ns ms : List ℕ) (vs ws : List Verdict) → Numbered ns vs → Numbered ms ws → Numbered (ns ++ ms) (vs ++ ws)
 unfolding Numbered
-higher lo [] [] a j l = absurd (omega arith)
-higher lo [] (v ∷ vs) a j l = absurd a
-higher lo (n ∷ ns) [] a j l = absurd a
-higher lo (n ∷ ns) (v ∷ vs) a zero l = a .0
-higher lo (n ∷ ns) (v ∷ vs) a (suc j) l = omega (arith, a .0, higher n ns vs (a .2) j (omega arith))
+numbered-append [] ms [] ws a c = c
+numbered-append [] ms (v ∷ vs) ws a c = absurd a
+numbered-append (n ∷ ns) ms [] ws a c = absurd a
+numbered-append (n ∷ ns) ms (v ∷ vs) ws a c = (a .0, numbered-append ns ms vs ws (a .1) c)
+
+-- a number of the list is among them
+pub number-among : (ns : List ℕ) (j : ℕ) → j < length ns → among (getD ns j 0) ns ≡ true
+number-among [] j l = absurd (omega arith)
+number-among (n ∷ ns) zero l = rw (eq-eqb n n refl)
+number-among (n ∷ ns) (suc j) l = rw (number-among ns j (omega arith), or-true (eqb (getD ns j 0) n))
+
+-- what is given is acceptance or has one of the numbers
+given : (ns : List ℕ) (vs : List Verdict) → Numbered ns vs → (first vs .code ≡ 0) ⊎ (among (first vs .code) ns ≡ true)
+unfolding first Numbered
+given [] [] a = inl refl
+given [] (v ∷ vs) a = absurd a
+given (n ∷ ns) [] a = absurd a
+given (n ∷ ns) (v ∷ vs) a = go (refuses v) (a .0) (given ns vs (a .1))
+  where
+    go : (r : Bool) → (v .code ≡ 0) ⊎ (v .code ≡ n) → (first vs .code ≡ 0) ⊎ (among (first vs .code) ns ≡ true)
+        → (cond r v (first vs) .code ≡ 0) ⊎ (among (cond r v (first vs) .code) (n ∷ ns) ≡ true)
+    go true (inl z) w = inl z
+    go true (inr z) w = inr (rw (eq-eqb (v .code) n z))
+    go false x (inl z) = inl z
+    go false x (inr z) = inr (rw (z, or-true (eqb (first vs .code) n)))
 
 -- check number j applies, and none before it does
 pub record OwnCase (vs : List Verdict) (j : ℕ) : Type 0 where
   pub applies : refuses (getD vs j accepted) ≡ true
   pub none-before : (i : ℕ) → i < j → refuses (getD vs i accepted) ≡ false
 
-pub in-its-case : (lo : ℕ) (ns : List ℕ) (vs : List Verdict) → Numbered lo ns vs → (j : ℕ) → j < length ns
-    → (first vs .code ≡ getD ns j 0) ↔ OwnCase vs j
+-- the first number is not 0 and is none of the others
+apart : (n : ℕ) (ns : List ℕ) → separate (n ∷ ns) ≡ true → (0 < n) × (among n ns ≡ true → ⊥) × (separate ns ≡ true)
+unfolding separate
+apart n ns d = (
+  ltb-true 0 n (and-left (ltb 0 n) (not (among n ns) && separate ns) d),
+  λ e. not-both (among n ns) e (and-left (not (among n ns)) (separate ns) (and-right (ltb 0 n) (not (among n ns) && separate ns) d)),
+  and-right (not (among n ns)) (separate ns) (and-right (ltb 0 n) (not (among n ns) && separate ns) d),
+)
+
+pub in-its-case : (ns : List ℕ) (vs : List Verdict) → separate ns ≡ true → Numbered ns vs → (j : ℕ) → j < length ns → (first vs .code ≡ getD ns j 0) ↔ OwnCase vs j
 unfolding first Numbered
-in-its-case lo [] [] a j l = absurd (omega arith)
-in-its-case lo [] (v ∷ vs) a j l = absurd a
-in-its-case lo (n ∷ ns) [] a j l = absurd a
-in-its-case lo (n ∷ ns) (v ∷ vs) a zero l = (to (refuses v) refl, from)
+in-its-case [] [] d a j l = absurd (omega arith)
+in-its-case [] (v ∷ vs) d a j l = absurd a
+in-its-case (n ∷ ns) [] d a j l = absurd a
+in-its-case (n ∷ ns) (v ∷ vs) d a zero l = (to (refuses v) refl, from)
   where
     to : (r : Bool) → refuses v ≡ r → cond r v (first vs) .code ≡ n → OwnCase (v ∷ vs) zero
     to true e z = record { applies = e; none-before = λ i k. absurd (omega arith) }
-    to false e z = clash (above n ns vs (a .2))
+    to false e z = clash (given ns vs (a .1))
       where
-        clash : (first vs .code ≡ 0) ⊎ (n < first vs .code) → OwnCase (v ∷ vs) zero
-        clash (inl y) = absurd (omega (arith, a .0))
-        clash (inr y) = absurd (omega arith)
+        clash : (first vs .code ≡ 0) ⊎ (among (first vs .code) ns ≡ true) → OwnCase (v ∷ vs) zero
+        clash (inl y) = absurd (omega (arith, apart n ns d .0))
+        clash (inr y) = absurd (apart n ns d .1 (rw z at y))
 
     from : OwnCase (v ∷ vs) zero → cond (refuses v) v (first vs) .code ≡ n
-    from c = rw (c .applies) (pick (a .1))
+    from c = rw (c .applies) (pick (a .0))
       where
         pick : (v .code ≡ 0) ⊎ (v .code ≡ n) → v .code ≡ n
         pick (inl z) = absurd (omega (arith, ltb-true 0 (v .code) (c .applies)))
         pick (inr z) = z
-in-its-case lo (n ∷ ns) (v ∷ vs) a (suc j) l =
-    (to (refuses v) refl (in-its-case n ns vs (a .2) j (omega arith) .0), from (in-its-case n ns vs (a .2) j (omega arith) .1))
+in-its-case (n ∷ ns) (v ∷ vs) d a (suc j) l =
+    (to (refuses v) refl (in-its-case ns vs (apart n ns d .2) (a .1) j (omega arith) .0), from (in-its-case ns vs (apart n ns d .2) (a .1) j (omega arith) .1))
   where
     more : OwnCase vs j → refuses v ≡ false → (i : ℕ) → i < suc j → refuses (getD (v ∷ vs) i accepted) ≡ false
     more c e zero k = e
     more c e (suc i) k = c .none-before i (omega arith)
 
     to : (r : Bool) → refuses v ≡ r → (first vs .code ≡ getD ns j 0 → OwnCase vs j) → cond r v (first vs) .code ≡ getD ns j 0 → OwnCase (v ∷ vs) (suc j)
-    to true e f z = clash (a .1)
+    to true e f z = clash (a .0)
       where
         clash : (v .code ≡ 0) ⊎ (v .code ≡ n) → OwnCase (v ∷ vs) (suc j)
         clash (inl y) = absurd (omega (arith, ltb-true 0 (v .code) e))
-        clash (inr y) = absurd (omega (arith, higher n ns vs (a .2) j (omega arith)))
+        clash (inr y) = absurd (apart n ns d .1 (rw (sym z ∙ y) at (number-among ns j (omega arith))))
     to false e f z = let c = f z in record { applies = c .applies; none-before = more c e }
 
     from : (OwnCase vs j → first vs .code ≡ getD ns j 0) → OwnCase (v ∷ vs) (suc j) → cond (refuses v) v (first vs) .code ≡ getD ns j 0

@@ -9,24 +9,29 @@ use Rattle.rules.specs.Frames.{seen, filledBy, framesBy, framesOf, tally
 use Rattle.rules.specs.Standing.{kept, unexpected, repeated, short, isShort, markAfter, standing, marked, entered, itemOf}
 use Rattle.rules.specs.Taking.{run, walk, itemsOf, bodyLevel, taken}
 use Rattle.rules.specs.Table.{rowsOf, keptRows, header, tableOf, laid}
-use Rattle.rules.specs.Verdicts.{check, first, shortChecks, hasKept, levelChecks, groupChecks, lackChecks, headerChecks, framingChecks, judgeChecks, maskChecks, judgeTable}
-use Rattle.rules.specs.Covered.{ownCovered, coveredBy, coveredIn, covered, openOctets, zeroed, insideCleared, clearAll, masked, maskCopy}
+use Rattle.rules.specs.Verdicts.{check, first, shortChecks, hasKept, levelChecks, groupChecks, lackChecks, headerChecks, framingChecks, lentChecks, callChecks, callTable, judgeChecks}
+use Rattle.rules.specs.Covered.{ownCovered, coveredBy, coveredIn, covered, openOctets, zeroed, insideCleared, clearAll, masked, callCopy}
 use Rattle.rules.specs.Emitting.{sizeOf, sizes, within, emitted}
 use Rattle.rules.specs.Cleaned.{received, pieces, cleaned, cleanChecks, cleanLength, cleanCopy}
 use Rattle.rules.specs.Values.{standingKept, isOf, tableRows, rowSpan, deskSpan, isPlain, seekPlain, plainSpan}
 use Rattle.rules.specs.Built.{given, givens, since, depthFirst, someRow, anyOf, reasons, built, buildChecks, headedChecks, buildLength, buildRoom}
-use Rattle.rules.specs.Examples.{examples, empties, report, mixed, voids, outcome, written}
+use Rattle.rules.specs.Examples.{examples, rooms, empties, report, mixed, voids, outcome, written}
 use Rattle.rules.specs.CleanExamples.{cleanings, cleanOutcome, cleanWritten}
 use Rattle.rules.specs.LookupExamples.{lookups, lookupOutcome, lookupWritten}
 use Rattle.rules.specs.BuildExamples.{builds, buildOutcome, buildWritten}
 
 pub a-to-m : map outcome examples ≡ map written examples
-unfolding examples version flagP flagT messageType lengthField headerLength headOf parteds leastByType leastOf wholeTypes coversWhole restTypes coversRest levels messages book seek seekMessage listing messageOf isMessage isShort markAfter standing marked entered itemOf run walk itemsOf bodyLevel taken rowsOf keptRows header tableOf laid check first shortChecks hasKept levelChecks groupChecks lackChecks headerChecks framingChecks judgeChecks maskChecks judgeTable openOctets zeroed clearAll masked maskCopy seen filledBy framesBy framesOf tally exceeds insideCleared
+unfolding examples version flagP flagT messageType lengthField headerLength headOf parteds leastByType leastOf wholeTypes coversWhole restTypes coversRest levels messages book seek seekMessage listing messageOf isMessage isShort markAfter standing marked entered itemOf run walk itemsOf bodyLevel taken rowsOf keptRows header tableOf laid check first shortChecks hasKept levelChecks groupChecks lackChecks headerChecks framingChecks lentChecks callChecks callTable openOctets zeroed clearAll masked callCopy seen filledBy framesBy framesOf tally exceeds insideCleared
 a-to-m = refl
+
+-- just enough is lent, or too little: 13 before 10, and both before 11 and 12, which leave a copy
+pub all-rooms : map outcome rooms ≡ map written rooms
+unfolding rooms version flagP flagT messageType lengthField headerLength headOf parteds leastByType leastOf wholeTypes coversWhole restTypes coversRest levels messages book seek seekMessage listing messageOf isMessage isShort markAfter standing marked entered itemOf run walk itemsOf bodyLevel taken rowsOf keptRows header tableOf laid check first shortChecks hasKept levelChecks groupChecks lackChecks headerChecks framingChecks lentChecks callChecks callTable openOctets zeroed clearAll masked callCopy seen filledBy framesBy framesOf tally exceeds insideCleared
+all-rooms = refl
 
 -- ten APNs stand, and eleven void: short ones counted
 pub all-voids : map outcome voids ≡ map written voids
-unfolding voids empties version flagP flagT messageType lengthField headerLength headOf parteds leastByType leastOf wholeTypes coversWhole restTypes coversRest levels messages book seek seekMessage listing messageOf isMessage isShort markAfter standing marked entered itemOf run walk itemsOf bodyLevel taken rowsOf keptRows header tableOf laid check first shortChecks hasKept levelChecks groupChecks lackChecks headerChecks framingChecks judgeChecks maskChecks judgeTable openOctets zeroed clearAll masked maskCopy seen filledBy framesBy framesOf tally exceeds insideCleared
+unfolding voids empties version flagP flagT messageType lengthField headerLength headOf parteds leastByType leastOf wholeTypes coversWhole restTypes coversRest levels messages book seek seekMessage listing messageOf isMessage isShort markAfter standing marked entered itemOf run walk itemsOf bodyLevel taken rowsOf keptRows header tableOf laid check first shortChecks hasKept levelChecks groupChecks lackChecks headerChecks framingChecks lentChecks callChecks callTable openOctets zeroed clearAll masked callCopy seen filledBy framesBy framesOf tally exceeds insideCleared
 all-voids = refl
 
 -- which octets of the last of these are covered, from the header of its 180/0 on

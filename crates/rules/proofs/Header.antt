@@ -1,6 +1,6 @@
 -- What passing checks 1 to 8 says of a message, and that each check has a number of its own. Assumes nothing.
 --     passed      checks 1 to 8 pass               framed       checks 1 to 9 pass: the elements are all taken
---     judge-case, mask-case, clean-case, build-case   a number is given exactly in its own case
+--     call-case, judge-case, clean-case, build-case   a number is given exactly in its own case
 use mathlib.Core.Path.{_≡_, refl, sym, ap, _∙_}
 use mathlib.Core.Logic.{_⊎_, inl, inr, _↔_}
 use mathlib.Core.Bool.{Bool, true, false, cond, not, _&&_, _||_, Bool·beq}
@@ -8,7 +8,7 @@ use mathlib.Core.List.{List, [], _∷_, _++_}
 use Prim.Native.Nat.{ℕ, zero, suc, _+_, _≤_, _<_}
 use native.Mathlib.Omega.{arith}
 use native.Mathlib.Nat.{pos-of-ne-zero}
-use borrow.Author.Tests.{eqb-true, eqb-false, ltb-false, ltb-true}
+use borrow.Author.Tests.{eqb-true, eqb-false, ltb-false}
 use lib.Dec.{eqb, ltb}
 use lib.ListN.{length, getD}
 use Rattle.rules.specs.Sizes.{largestMessage, used}
@@ -17,12 +17,12 @@ use Rattle.rules.specs.Types.{among}
 use Rattle.rules.specs.Listings.{Book, Line, Message, listing, messageOf, isMessage}
 use Rattle.rules.specs.Standing.{Item}
 use Rattle.rules.specs.Taking.{Out, cut, whole, taken, bodyLevel}
-use Rattle.rules.specs.Verdicts.{accepted, refused, check, refuses, first, cutCheck, shortCheck, shortChecks, shortVerdict, levelChecks, insideChecks, groupChecks, lackChecks, lackVerdict, headerChecks, framingChecks, items, copyCheck, tableChecks, judgeChecks, maskChecks, framingNumbers, judgeNumbers, maskNumbers}
+use Rattle.rules.specs.Verdicts.{accepted, refused, check, refuses, first, cutCheck, shortCheck, shortChecks, shortVerdict, levelChecks, insideChecks, groupChecks, lackChecks, lackVerdict, headerChecks, framingChecks, items, copyCheck, tableChecks, judgeChecks, callChecks, framingNumbers, judgeNumbers, callNumbers}
 use Rattle.rules.specs.Cleaned.{tooShort, cleanChecks, cleanNumbers}
 use Rattle.rules.specs.Built.{buildChecks, buildNumbers}
 use Rattle.rules.specs.declared.Verdict.{Verdict}
 use Rattle.rules.proofs.Lines.{beq-same}
-use Rattle.rules.proofs.Checks.{AllPass, all-pass, Numbered, lastNumber, numbered-append, OwnCase, in-its-case}
+use Rattle.rules.proofs.Checks.{AllPass, all-pass, Numbered, separate, numbered-append, OwnCase, in-its-case}
 
 pub record Passed (b : Book) (k : ℕ) (m : List ℕ) : Type 0 where
   pub kind : among k (b .kinds) ≡ true
@@ -144,28 +144,19 @@ lacks-code b k v is =
     code-append 12 (levelChecks k is 0 0 (listing b v)) (groupChecks b k is 0 is) (level-code k is 0 0 (listing b v)) (groups-code b k is 0 is)
 
 module _ (b : Book) (k : ℕ) (m : List ℕ) where
-  framing-numbered : Numbered 0 framingNumbers (framingChecks b k m)
+  framing-numbered : Numbered framingNumbers (framingChecks b k m)
   unfolding framingChecks headerChecks Numbered
   framing-numbered = (
-    omega arith,
     check-code 1 _ _ refl,
     (
-      omega arith,
       check-code 2 _ _ refl,
       (
-        omega arith,
         check-code 3 _ _ refl,
         (
-          omega arith,
           check-code 4 _ _ refl,
           (
-            omega arith,
             check-code 5 _ _ refl,
-            (
-              omega arith,
-              check-code 6 _ _ refl,
-              (omega arith, check-code 7 _ _ refl, (omega arith, check-code 8 _ _ refl, (omega arith, cut-code (taken b k m), tt))),
-            ),
+            (check-code 6 _ _ refl, (check-code 7 _ _ refl, (check-code 8 _ _ refl, (cut-code (taken b k m), tt)))),
           ),
         ),
       ),
@@ -173,9 +164,8 @@ module _ (b : Book) (k : ℕ) (m : List ℕ) where
   )
 
   -- checks after those
-  numbered : (ns : List ℕ) (vs : List Verdict) → Numbered 9 ns vs → Numbered 0 (framingNumbers ++ ns) (framingChecks b k m ++ vs)
-  unfolding lastNumber
-  numbered ns vs a = numbered-append 0 framingNumbers ns (framingChecks b k m) vs framing-numbered a
+  numbered : (ns : List ℕ) (vs : List Verdict) → Numbered ns vs → Numbered (framingNumbers ++ ns) (framingChecks b k m ++ vs)
+  numbered ns vs a = numbered-append framingNumbers ns (framingChecks b k m) vs framing-numbered a
 
   short-code : (shortVerdict (items b k m) .code ≡ 0) ⊎ (shortVerdict (items b k m) .code ≡ 11)
   short-code = first-code 11 (shortChecks (items b k m)) (shorts-code (items b k m))
@@ -183,28 +173,34 @@ module _ (b : Book) (k : ℕ) (m : List ℕ) where
   lack-code : (lackVerdict b k (bodyLevel b m) (items b k m) .code ≡ 0) ⊎ (lackVerdict b k (bodyLevel b m) (items b k m) .code ≡ 12)
   lack-code = first-code 12 (lackChecks b k (bodyLevel b m) (items b k m)) (lacks-code b k (bodyLevel b m) (items b k m))
 
+  -- 10 to 12
+  table-numbered : (room : ℕ) → Numbered (10 ∷ 11 ∷ 12 ∷ []) (tableChecks b k m room)
+  unfolding Numbered
+  table-numbered room = (check-code 10 _ _ refl, (short-code, (lack-code, tt)))
+
+  -- 13, then 10 to 12
+  pub call-case : (octets room j : ℕ) → j < 13 → (first (callChecks b k m octets room) .code ≡ getD callNumbers j 0) ↔ OwnCase (callChecks b k m octets room) j
+  unfolding callChecks Numbered separate
+  call-case octets room j l =
+      in-its-case callNumbers (callChecks b k m octets room) refl
+      (numbered (13 ∷ 10 ∷ 11 ∷ 12 ∷ []) (copyCheck b k m octets ∷ tableChecks b k m room) (check-code 13 _ _ refl, table-numbered room)) j l
+
   module _ (room : ℕ) where
     pub judge-case : (j : ℕ) → j < 12 → (first (judgeChecks b k m room) .code ≡ getD judgeNumbers j 0) ↔ OwnCase (judgeChecks b k m room) j
-    unfolding judgeChecks Numbered
+    unfolding judgeChecks separate
     judge-case j l =
-        in-its-case 0 judgeNumbers (judgeChecks b k m room)
-        (numbered (10 ∷ 11 ∷ 12 ∷ []) (tableChecks b k m room) (omega arith, check-code 10 _ _ refl, (omega arith, short-code, (omega arith, lack-code, tt)))) j l
-
-    pub mask-case : (j : ℕ) → j < 10 → (first (maskChecks b k m room) .code ≡ getD maskNumbers j 0) ↔ OwnCase (maskChecks b k m room) j
-    unfolding maskChecks Numbered
-    mask-case j l =
-        in-its-case 0 maskNumbers (maskChecks b k m room) (numbered (13 ∷ []) (copyCheck b k m room ∷ []) (omega arith, check-code 13 _ _ refl, tt)) j l
+        in-its-case judgeNumbers (judgeChecks b k m room) refl (numbered (10 ∷ 11 ∷ 12 ∷ []) (tableChecks b k m room) (table-numbered room)) j l
 
     pub clean-case : (j : ℕ) → j < 12 → (first (cleanChecks b k m room) .code ≡ getD cleanNumbers j 0) ↔ OwnCase (cleanChecks b k m room) j
-    unfolding cleanChecks Numbered
+    unfolding cleanChecks Numbered separate
     clean-case j l =
-        in-its-case 0 cleanNumbers (cleanChecks b k m room)
+        in-its-case cleanNumbers (cleanChecks b k m room) refl
         (numbered (11 ∷ 12 ∷ 13 ∷ []) (shortVerdict (items b k m) ∷ lackVerdict b k (bodyLevel b m) (items b k m) ∷ tooShort b k m room ∷ [])
-        (omega arith, short-code, (omega arith, lack-code, (omega arith, check-code 13 _ _ refl, tt)))) j l
+        (short-code, (lack-code, (check-code 13 _ _ refl, tt)))) j l
 
 pub build-case : (b : Book) (k typ teid sequence : ℕ) (t values : List ℕ) (room j : ℕ) → j < 5
     → (first (buildChecks b k typ teid sequence t values room) .code ≡ getD buildNumbers j 0) ↔ OwnCase (buildChecks b k typ teid sequence t values room) j
-unfolding buildChecks Numbered
+unfolding buildChecks Numbered separate
 build-case b k typ teid sequence t values room j l =
-    in-its-case 0 buildNumbers (buildChecks b k typ teid sequence t values room)
-    (omega arith, check-code 1 _ _ refl, (omega arith, check-code 7 _ _ refl, (omega arith, check-code 14 _ _ refl, (omega arith, check-code 15 _ _ refl, (omega arith, check-code 16 _ _ refl, tt))))) j l
+    in-its-case buildNumbers (buildChecks b k typ teid sequence t values room) refl
+    (check-code 1 _ _ refl, (check-code 7 _ _ refl, (check-code 14 _ _ refl, (check-code 15 _ _ refl, (check-code 16 _ _ refl, tt))))) j l

@@ -3,6 +3,7 @@ pub mod Walks
 pub mod Frames
 pub mod Mets
 pub mod Checks
+pub mod Calls
 pub mod Lines
 pub mod Standings
 pub mod Rows

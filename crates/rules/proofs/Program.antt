@@ -8,7 +8,7 @@ use Rattle.rules.specs.Frames.{seen, exceeds}
 use Rattle.rules.specs.Standing.{isShort, markAfter, standing, marked, entered, itemOf}
 use Rattle.rules.specs.Taking.{run, walk, itemsOf, bodyLevel, taken}
 use Rattle.rules.specs.Table.{rowsOf, keptRows}
-use Rattle.rules.specs.Verdicts.{check, first, shortChecks, hasKept, levelChecks, groupChecks, lackChecks, headerChecks, framingChecks, judgeChecks}
+use Rattle.rules.specs.Verdicts.{check, first, shortChecks, hasKept, levelChecks, groupChecks, lackChecks, headerChecks, framingChecks, callChecks}
 use Rattle.rules.specs.Program.{digitAt, decimal, blanked, line, rowLines, textOf}
 use Rattle.rules.specs.Examples.{messageG}
 
@@ -17,5 +17,5 @@ pub text-g : textOf book 1 messageG
     ≡ 97 ∷ 99 ∷ 99 ∷ 101 ∷ 112 ∷ 116 ∷ 32 ∷ 50 ∷ 32 ∷ 50 ∷ 10
     ∷ 48 ∷ 32 ∷ 57 ∷ 51 ∷ 32 ∷ 48 ∷ 32 ∷ 49 ∷ 54 ∷ 32 ∷ 53 ∷ 32 ∷ 48 ∷ 10
     ∷ 49 ∷ 32 ∷ 55 ∷ 51 ∷ 32 ∷ 48 ∷ 32 ∷ 50 ∷ 48 ∷ 32 ∷ 49 ∷ 32 ∷ 48 ∷ 10 ∷ []
-unfolding version flagP flagT messageType lengthField headerLength headOf parteds leastByType leastOf levels messages book seek seekMessage listing messageOf isMessage isShort markAfter standing marked entered itemOf run walk itemsOf bodyLevel taken rowsOf keptRows check first shortChecks hasKept levelChecks groupChecks lackChecks headerChecks framingChecks judgeChecks digitAt decimal blanked line rowLines textOf seen exceeds
+unfolding version flagP flagT messageType lengthField headerLength headOf parteds leastByType leastOf levels messages book seek seekMessage listing messageOf isMessage isShort markAfter standing marked entered itemOf run walk itemsOf bodyLevel taken rowsOf keptRows check first shortChecks hasKept levelChecks groupChecks lackChecks headerChecks framingChecks callChecks digitAt decimal blanked line rowLines textOf seen exceeds
 text-g = refl

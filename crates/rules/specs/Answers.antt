@@ -1,21 +1,23 @@
 -- What each public function answers and leaves, for every input: the statements that the code's contracts cite whole. Assumes nothing.
 use mathlib.Core.Path.{_≡_}
-use Prim.Native.Nat.{ℕ, _/_}
+use Prim.Native.Nat.{ℕ, _*_, _/_}
 use mathlib.Core.Bool.{Bool, true, false, cond}
 use mathlib.Core.List.{List, []}
+use lib.Dec.{ltb}
 use lib.ListN.{length}
+use Rattle.rules.specs.Sizes.{rowNumbers}
 use denote.Ref.{RefT, now}
 use Rattle.rules.specs.Framing.{messageType}
 use Rattle.rules.specs.Listings.{Book, book}
 use Rattle.rules.specs.Standing.{Item}
 use Rattle.rules.specs.Taking.{Out, cut, whole, taken, bodyLevel, itemsIn}
 use Rattle.rules.specs.Table.{rowsOf, keptRows, laid, fitting}
-use Rattle.rules.specs.Verdicts.{accepted, first, refuses, headerChecks, framingChecks, shortVerdict, lackVerdict, items, judgeVerdict, maskVerdict, judgeTable}
-use Rattle.rules.specs.Covered.{maskCopy}
+use Rattle.rules.specs.Verdicts.{accepted, first, refuses, headerChecks, framingChecks, shortVerdict, lackVerdict, items, callVerdict, callTable}
+use Rattle.rules.specs.Covered.{callCopy}
 use Rattle.rules.specs.Cleaned.{cleanVerdict, cleanLength, cleanCopy}
 use Rattle.rules.specs.Built.{buildVerdict, buildLength, buildRoom}
 use Rattle.rules.specs.Values.{Stands, deskSpan, plainSpan}
-use Rattle.rules.specs.Octets.{numbersIn, fiveLaid, answerLaid, tableRoom, judgeOctets}
+use Rattle.rules.specs.Octets.{numbersIn, fiveLaid, answerLaid, tableRoom, callOctets}
 use Rattle.rules.specs.declared.Verdict.{Verdict}
 use Rattle.rules.specs.declared.Reading.{Reading}
 use Rattle.rules.specs.declared.Decision.{Decision}
@@ -51,31 +53,34 @@ pub record Read (kind : ℕ) (message rows : List ℕ) (answer : Reading) (rows�
   pub answers : answer ≡ readingOf book kind message
   pub rows-left : rows′ ≡ readRows book kind message rows
 
--- ---- the judge
+-- ---- the one call: judge and copy
 
--- its decision, for a table of so many numbers
-unfoldable pub decisionOf : Book → ℕ → List ℕ → ℕ → Decision
-decisionOf b k m room = record {
-  verdict = judgeVerdict b k m room;
+pub record Called (kind : ℕ) (message table copy : List ℕ) (answer : Verdict) (table′ copy′ : List ℕ) : Type 0 where
+  pub answers : answer ≡ callVerdict book kind message (length copy) (length table)
+  pub table-left : table′ ≡ callTable book kind message (length copy) table
+  pub copy-left : copy′ ≡ callCopy book kind message (length table) copy
+
+-- the same with a table lent as octets, two a number
+pub record CalledStored (kind : ℕ) (message table copy : List ℕ) (answer : Verdict) (table′ copy′ : List ℕ) : Type 0 where
+  pub answers : answer ≡ callVerdict book kind message (length copy) (tableRoom table)
+  pub table-left : table′ ≡ callOctets book kind message (length copy) table
+  pub copy-left : copy′ ≡ callCopy book kind message (tableRoom table) copy
+
+-- what it decides, for a copy buffer of so many octets and a table of so many numbers
+unfoldable pub decisionOf : Book → ℕ → List ℕ → ℕ → ℕ → Decision
+decisionOf b k m octets room = record {
+  verdict = callVerdict b k m octets room;
   rows = readingOf b k m .rows;
   kept = readingOf b k m .kept;
-  typ = cond (refuses (judgeVerdict b k m room)) 0 (messageType m);
-  kind = cond (refuses (judgeVerdict b k m room)) 0 k;
+  typ = cond (refuses (callVerdict b k m octets room)) 0 (messageType m);
+  kind = cond (refuses (callVerdict b k m octets room)) 0 k;
 }
 
-pub record Decided (kind : ℕ) (message rows : List ℕ) (room : ℕ) (answer : Decision) (rows′ : List ℕ) : Type 0 where
-  pub answers : answer ≡ decisionOf book kind message room
+-- the call without its table: the rows go to a scratch, as many as there is room for; the copy is written only if there is room for all of them
+pub record Decided (kind : ℕ) (message rows : List ℕ) (room : ℕ) (copy : List ℕ) (answer : Decision) (rows′ copy′ : List ℕ) : Type 0 where
+  pub answers : answer ≡ decisionOf book kind message (length copy) room
   pub rows-left : rows′ ≡ readRows book kind message rows
-
-pub record Judged (kind : ℕ) (message table : List ℕ) (answer : Verdict) (table′ : List ℕ) : Type 0 where
-  pub answers : answer ≡ judgeVerdict book kind message (length table)
-  pub table-left : table′ ≡ judgeTable book kind message table
-
--- ---- the masker
-
-pub record Masked (kind : ℕ) (message copy : List ℕ) (answer : Verdict) (copy′ : List ℕ) : Type 0 where
-  pub answers : answer ≡ maskVerdict book kind message (length copy)
-  pub copy-left : copy′ ≡ maskCopy book kind message copy
+  pub copy-left : copy′ ≡ cond (ltb (length rows) (rowNumbers * readingOf book kind message .rows)) copy (callCopy book kind message room copy)
 
 -- ---- the cleaned copy
 
@@ -109,15 +114,11 @@ DeskFound kind row right message copy table answer = answer ≡ deskSpan kind ro
 
 -- ---- the exports to C: the code is the result
 
-pub record JudgedOctets (kind : ℕ) (message table five : List ℕ) (code : ℕ) (table′ five′ : List ℕ) : Type 0 where
-  pub answers : code ≡ judgeVerdict book kind message (tableRoom table) .code
-  pub table-left : table′ ≡ judgeOctets book kind message table
-  pub five-left : five′ ≡ fiveLaid (judgeVerdict book kind message (tableRoom table)) five
-
-pub record MaskedOctets (kind : ℕ) (message copy five : List ℕ) (code : ℕ) (copy′ five′ : List ℕ) : Type 0 where
-  pub answers : code ≡ maskVerdict book kind message (length copy) .code
-  pub copy-left : copy′ ≡ maskCopy book kind message copy
-  pub five-left : five′ ≡ fiveLaid (maskVerdict book kind message (length copy)) five
+pub record CalledOctets (kind : ℕ) (message table copy five : List ℕ) (code : ℕ) (table′ copy′ five′ : List ℕ) : Type 0 where
+  pub answers : code ≡ callVerdict book kind message (length copy) (tableRoom table) .code
+  pub table-left : table′ ≡ callOctets book kind message (length copy) table
+  pub copy-left : copy′ ≡ callCopy book kind message (tableRoom table) copy
+  pub five-left : five′ ≡ fiveLaid (callVerdict book kind message (length copy) (tableRoom table)) five
 
 pub record CleanedOctets (kind : ℕ) (message clean answer : List ℕ) (code : ℕ) (clean′ answer′ : List ℕ) : Type 0 where
   pub answers : code ≡ cleanVerdict book kind message (length clean) .code

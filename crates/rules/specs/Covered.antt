@@ -10,7 +10,7 @@ use Rattle.rules.specs.Framing.{elementHeader}
 use Rattle.rules.specs.Frames.{Frame, hides}
 use Rattle.rules.specs.Standing.{Item, kept, unexpected, repeated, short, valuePlace, valueEnd}
 use Rattle.rules.specs.Table.{laid}
-use Rattle.rules.specs.Verdicts.{first, refuses, framingChecks, items, maskVerdict}
+use Rattle.rules.specs.Verdicts.{first, refuses, framingChecks, lentChecks, items, maskVerdict}
 
 -- ---- octet by octet (rule 7.1)
 
@@ -76,6 +76,11 @@ clearAll xs (i ∷ is) = clearAll (cleared xs i) is
 unfoldable pub masked : Book → ℕ → List ℕ → List ℕ
 masked b k m = clearAll m (items b k m)
 
--- what a refusal leaves, and what lies beyond the message, is as it was lent (rule 6.4)
+-- the one call writes it unless 1 to 9, 13 or 10 refuse, with a table of so many numbers; so where 11 or 12 do, too. What lies beyond the message is as it was
+-- lent (rules 6.3, 6.4)
+unfoldable pub callCopy : Book → ℕ → List ℕ → ℕ → List ℕ → List ℕ
+callCopy b k m room copy = cond (refuses (first (lentChecks b k m (length copy) room))) copy (laid (masked b k m) copy)
+
+-- with no table asked for
 unfoldable pub maskCopy : Book → ℕ → List ℕ → List ℕ → List ℕ
 maskCopy b k m copy = cond (refuses (maskVerdict b k m (length copy))) copy (laid (masked b k m) copy)

@@ -1,43 +1,61 @@
--- The examples A to M: what is asked, and what has to come out. Assumes nothing.
+-- The examples A to M, and those of CR 8 and CR 9: what is asked, and what has to come out. Assumes nothing.
 use Prim.Native.Nat.{ℕ, zero, suc, _+_}
 use mathlib.Core.Bool.{Bool, true, false, cond}
 use mathlib.Core.List.{List, [], _∷_, _++_}
 use lib.ListN.{length, take, drop, set, replicate}
 use Rattle.rules.specs.Listings.{book}
-use Rattle.rules.specs.Verdicts.{accepted, refused, refusedAt, judgeVerdict, judgeTable, maskVerdict}
-use Rattle.rules.specs.Covered.{maskCopy}
+use Rattle.rules.specs.Verdicts.{accepted, refused, refusedAt, callVerdict, callTable}
+use Rattle.rules.specs.Covered.{callCopy}
 use Rattle.rules.specs.declared.Verdict.{Verdict}
 
-pub data Call : Type 0 where
-  judging masking : Call
-
--- the letter of the example, the call, the kind, the message and what is lent; then the verdict and what is left in what was lent
+-- the letter of the example, the kind, the message and what is lent: a table and a copy; then the verdict and what is left in these
 pub record Example : Type 0 where
   pub letter : ℕ
-  pub call : Call
   pub kind : ℕ
   pub message : List ℕ
-  pub lent : List ℕ
+  pub table : List ℕ
+  pub copy : List ℕ
   pub verdict : Verdict
-  pub left : List ℕ
+  pub table-left : List ℕ
+  pub copy-left : List ℕ
 
 pub record Outcome : Type 0 where
   pub verdict : Verdict
-  pub left : List ℕ
+  pub table : List ℕ
+  pub copy : List ℕ
 
 -- a table of sevens with room for three rows and one number more
 abbrev pub sevens : List ℕ
 sevens = replicate 25 7
 
-abbrev pub asked : Call → ℕ → ℕ → List ℕ → List ℕ → Verdict → List ℕ → Example
-asked c x k m lent v numbers =
-    record { letter = x; call = c; kind = k; message = m; lent = lent; verdict = v; left = numbers ++ drop (length numbers) lent }
+-- a copy buffer of sevens with room for thirty octets and one more
+abbrev pub sheet : List ℕ
+sheet = replicate 31 7
 
-abbrev pub judge : ℕ → ℕ → List ℕ → Verdict → List ℕ → Example
-judge x k m v numbers = asked judging x k m sevens v numbers
+-- numbers and octets that are written stand at the start of what was lent; the rest stays
+abbrev pub asked : ℕ → ℕ → List ℕ → List ℕ → List ℕ → Verdict → List ℕ → List ℕ → Example
+asked x k m table copy v numbers octets = record {
+  letter = x;
+  kind = k;
+  message = m;
+  table = table;
+  copy = copy;
+  verdict = v;
+  table-left = numbers ++ drop (length numbers) table;
+  copy-left = octets ++ drop (length octets) copy;
+}
 
-abbrev pub mask : ℕ → ℕ → List ℕ → Verdict → List ℕ → Example
-mask x k m v copy = asked masking x k m sevens v copy
+-- accepted: both are written
+abbrev pub taken : ℕ → ℕ → List ℕ → List ℕ → List ℕ → Example
+taken x k m numbers octets = asked x k m sevens sheet accepted numbers octets
+
+-- refused by 11 or 12: the copy alone is
+abbrev pub copied : ℕ → ℕ → List ℕ → Verdict → List ℕ → Example
+copied x k m v octets = asked x k m sevens sheet v [] octets
+
+-- refused by any other: neither is
+abbrev pub left : ℕ → ℕ → List ℕ → Verdict → Example
+left x k m v = asked x k m sevens sheet v [] []
 
 -- ---- the messages
 
@@ -82,37 +100,65 @@ line p t i a n s rows = p ∷ t ∷ i ∷ a ∷ n ∷ s ∷ rows
 
 -- ---- the table of examples
 
+abbrev pub tableD : List ℕ
+tableD = head 1 1 6 12 1 1 (line 0 3 0 12 1 0 [])
+
 unfoldable pub examples : List Example
 examples =
     -- A: empty: 2
-    judge 0xA 1 [] (refused 2 0) [] ∷
+    left 0xA 1 [] (refused 2 0) ∷
     -- B: `60`: 3
-    judge 0xB 1 (0x60 ∷ []) (refused 3 0) [] ∷
+    left 0xB 1 (0x60 ∷ []) (refused 3 0) ∷
     -- C: `40`: 4
-    judge 0xC 1 (0x40 ∷ []) (refused 4 0) [] ∷
+    left 0xC 1 (0x40 ∷ []) (refused 4 0) ∷
     -- D: table 1 1 6 12 1 1, 0 3 0 12 1 0; without its last octet: 6
-    judge 0xD 1 messageD accepted (head 1 1 6 12 1 1 (line 0 3 0 12 1 0 [])) ∷
-    judge 0xD 1 (take 12 messageD) (refused 6 67) [] ∷
+    taken 0xD 1 messageD tableD messageD ∷
+    left 0xD 1 (take 12 messageD) (refused 6 67) ∷
     -- E: 12, 70, 0, 3, 0
-    judge 0xE 1 messageE (refusedAt 12 70 0 3 0) [] ∷
-    -- F: accepted, second row 0 3 0 17 0 2; the two elements exchanged: 11, 67, 8, 3, 0
-    judge 0xF 1 (headF ++ firstF ++ secondF) accepted (head 2 1 6 18 1 1 (line 0 3 0 12 1 0 (line 0 3 0 17 0 2 []))) ∷
-    judge 0xF 1 (headF ++ secondF ++ firstF) (refusedAt 11 67 8 3 0) [] ∷
-    -- G: accepted; H: G with `60` for `5D`: 12, 70, 0, 93, 0
-    judge 0x10 1 messageG accepted (head 2 2 6 18 66 1 (line 0 93 0 16 5 0 (line 1 73 0 20 1 0 []))) ∷
-    judge 0x11 1 (set messageG 12 0x60) (refusedAt 12 70 0 93 0) [] ∷
+    copied 0xE 1 messageE (refusedAt 12 70 0 3 0) messageE ∷
+    -- F: accepted, second row 0 3 0 17 0 2; the two elements exchanged: 11, 67, 8, 3, 0, and the repeated one is covered
+    taken 0xF 1 (headF ++ firstF ++ secondF) (head 2 1 6 18 1 1 (line 0 3 0 12 1 0 (line 0 3 0 17 0 2 []))) (headF ++ firstF ++ secondF) ∷
+    copied 0xF 1 (headF ++ secondF ++ firstF) (refusedAt 11 67 8 3 0) (headF ++ secondF ++ set firstF 4 0x00) ∷
+    -- G: accepted; H: G with `60` for `5D`: 12, 70, 0, 93, 0, and what is not listed is covered
+    taken 0x10 1 messageG (head 2 2 6 18 66 1 (line 0 93 0 16 5 0 (line 1 73 0 20 1 0 []))) messageG ∷
+    copied 0x11 1 (set messageG 12 0x60) (refusedAt 12 70 0 93 0) (take 16 (set messageG 12 0x60) ++ replicate 5 0) ∷
     -- I: 12, 70, 12, 73, 0
-    judge 0x12 1 (headG 0x0C ++ (0x5D ∷ 0x00 ∷ 0x00 ∷ 0x00 ∷ [])) (refusedAt 12 70 12 73 0) [] ∷
+    copied 0x12 1 (headG 0x0C ++ (0x5D ∷ 0x00 ∷ 0x00 ∷ 0x00 ∷ [])) (refusedAt 12 70 12 73 0) (headG 0x0C ++ (0x5D ∷ 0x00 ∷ 0x00 ∷ 0x00 ∷ [])) ∷
     -- J: 9, 67, 16, 0, 0
-    judge 0x13 1
+    left 0x13 1
     (headG 0x1A
     ++ (0x5D ∷ 0x00 ∷ 0x05 ∷ 0x00 ∷ 0x49 ∷ 0x00 ∷ 0x0A ∷ 0x00 ∷ 0x05 ∷ 0x5D ∷ 0x00 ∷ 0x05 ∷ 0x00 ∷ 0x49 ∷ 0x00 ∷ 0x01 ∷ 0x00 ∷ 0x06 ∷ []))
-    (refusedAt 9 67 16 0 0) [] ∷
+    (refusedAt 9 67 16 0 0) ∷
     -- K: accepted, third row 0 180 1 25 0 1; L: K on kind 3: 12, 70, 21, 183, 0
-    judge 0x14 1 messageK accepted (head 3 2 6 24 66 1 (line 0 93 0 16 5 0 (line 1 73 0 20 1 0 (line 0 180 1 25 0 1 [])))) ∷
-    judge 0x15 3 messageK (refusedAt 12 70 21 183 0) [] ∷
+    taken 0x14 1 messageK (head 3 2 6 24 66 1 (line 0 93 0 16 5 0 (line 1 73 0 20 1 0 (line 0 180 1 25 0 1 [])))) messageK ∷
+    copied 0x15 3 messageK (refusedAt 12 70 21 183 0) messageK ∷
     -- M: the copy ends `00 00`
-    mask 0x16 1 messageM accepted (take 17 messageM ++ (0x00 ∷ 0x00 ∷ [])) ∷
+    taken 0x16 1 messageM (head 2 1 6 18 1 1 (line 0 3 0 12 1 0 (line 0 200 0 17 2 1 []))) (take 17 messageM ++ (0x00 ∷ 0x00 ∷ [])) ∷
+    []
+
+-- ---- CR 9: what is lent is too short, by one or by all
+
+-- so many numbers and octets are lent, all sevens
+abbrev pub lent : ℕ → ℕ → List ℕ → Verdict → List ℕ → List ℕ → Example
+lent numbers octets m v table copy = asked 0x1D 1 m (replicate numbers 7) (replicate octets 7) v table copy
+
+unfoldable pub rooms : List Example
+rooms =
+    -- D with just enough of both; an octet too few: 13; a number too few: 10; both: 13
+    lent 12 13 messageD accepted tableD messageD ∷
+    lent 12 12 messageD (refused 13 0) [] [] ∷
+    lent 11 13 messageD (refused 10 0) [] [] ∷
+    lent 11 12 messageD (refused 13 0) [] [] ∷
+    lent 0 0 messageD (refused 13 0) [] [] ∷
+    -- E, which 12 refuses, and F exchanged, which 11 does: the same come first, and 10 writes no copy
+    lent 6 8 messageE (refusedAt 12 70 0 3 0) [] messageE ∷
+    lent 6 7 messageE (refused 13 0) [] [] ∷
+    lent 5 8 messageE (refused 10 0) [] [] ∷
+    lent 18 17 (headF ++ secondF ++ firstF) (refusedAt 11 67 8 3 0) [] (headF ++ secondF ++ set firstF 4 0x00) ∷
+    lent 17 17 (headF ++ secondF ++ firstF) (refused 10 0) [] [] ∷
+    lent 17 16 (headF ++ secondF ++ firstF) (refused 13 0) [] [] ∷
+    -- what 1 to 9 refuse they refuse with nothing lent, too
+    lent 0 0 (take 12 messageD) (refused 6 67) [] [] ∷
     []
 
 -- ---- CR 8: an overload report of 67, on kind 1, by what its 180/0 holds
@@ -153,43 +199,52 @@ mixedMasked =
     0x47 ∷ 0x00 ∷ 0x02 ∷ 0x00 ∷ 0x00 ∷ 0x00 ∷ 0x4F ∷ 0x00 ∷ 0x02 ∷ 0xF0 ∷ 0x00 ∷ 0x00 ∷ 0x5D ∷ 0x00 ∷ 0x05 ∷ 0x00 ∷ 0x00 ∷ 0x00 ∷ 0x00 ∷ 0x00 ∷ 0x00 ∷
     empties 10 []
 
--- refused, with room enough for every row
-abbrev pub turned : ℕ → List ℕ → Verdict → Example
-turned x m v = asked judging x 1 m (replicate 120 7) v []
+-- a buffer of sevens for a copy of so many octets and one more
+abbrev pub paper : ℕ → List ℕ
+paper n = replicate (suc n) 7
+
+-- accepted as a void report, with a copy
+abbrev pub voided : ℕ → List ℕ → ℕ → List ℕ → Example
+voided x m n octets = asked x 1 m roomy (paper (length m)) accepted (voidTable n) octets
+
+-- refused, with room enough for every row; a copy is written, or none
+abbrev pub turned : ℕ → List ℕ → Verdict → List ℕ → Example
+turned x m v octets = asked x 1 m (replicate 120 7) (paper (length m)) v [] octets
 
 unfoldable pub voids : List Example
 voids =
-    -- eleven elements 71/0, ten of them short, and no mandatory pair: accepted, fifth row 0 180 0 37 45 4
-    asked judging 0x17 1 (reportOf 0x4E 0x2D (empties 10 (0x47 ∷ 0x00 ∷ 0x01 ∷ 0x00 ∷ 0x61 ∷ []))) roomy accepted (voidTable 45) ∷
+    -- eleven elements 71/0, ten of them short, and no mandatory pair: accepted, fifth row 0 180 0 37 45 4;
     -- its copy: the one value octet inside is zero, the headers stay
-    asked masking 0x17 1 (reportOf 0x4E 0x2D (empties 10 (0x47 ∷ 0x00 ∷ 0x01 ∷ 0x00 ∷ 0x61 ∷ []))) (replicate 82 7) accepted
+    voided 0x17 (reportOf 0x4E 0x2D (empties 10 (0x47 ∷ 0x00 ∷ 0x01 ∷ 0x00 ∷ 0x61 ∷ []))) 45
     (reportOf 0x4E 0x2D (empties 10 (0x47 ∷ 0x00 ∷ 0x01 ∷ 0x00 ∷ 0x00 ∷ []))) ∷
     -- ten are entered: 12, 70, 33, 183, 0
-    turned 0x18 (report (empties 10 [])) (refusedAt 12 70 33 183 0) ∷
-    -- the eleventh is a 71/1, or stands in a 93/0: not counted
-    turned 0x18 (report (empties 10 (0x47 ∷ 0x00 ∷ 0x00 ∷ 0x01 ∷ []))) (refusedAt 12 70 33 183 0) ∷
-    turned 0x18 (report (empties 10 (0x5D ∷ 0x00 ∷ 0x04 ∷ 0x00 ∷ empties 1 []))) (refusedAt 12 70 33 183 0) ∷
+    turned 0x18 (report (empties 10 [])) (refusedAt 12 70 33 183 0) (report (empties 10 [])) ∷
+    -- the eleventh is a 71/1, or stands in a 93/0, which is not listed there: not counted
+    turned 0x18 (report (empties 10 (0x47 ∷ 0x00 ∷ 0x00 ∷ 0x01 ∷ []))) (refusedAt 12 70 33 183 0) (report (empties 10 (0x47 ∷ 0x00 ∷ 0x00 ∷ 0x01 ∷ []))) ∷
+    turned 0x18 (report (empties 10 (0x5D ∷ 0x00 ∷ 0x04 ∷ 0x00 ∷ empties 1 []))) (refusedAt 12 70 33 183 0)
+    (report (empties 10 (0x5D ∷ 0x00 ∷ 0x04 ∷ 0x00 ∷ replicate 4 0))) ∷
     -- eleven in a 180/1 void nothing
-    turned 0x18 (set (report (empties 11 [])) 36 0x01) (refusedAt 12 70 33 183 0) ∷
+    turned 0x18 (set (report (empties 11 [])) 36 0x01) (refusedAt 12 70 33 183 0) (set (report (empties 11 [])) 36 0x01) ∷
     -- a short 183/0 before ten: 11, 67, 37, 183, 0; before eleven: accepted
-    turned 0x19 (report (0xB7 ∷ 0x00 ∷ 0x00 ∷ 0x00 ∷ empties 10 [])) (refusedAt 11 67 37 183 0) ∷
-    asked judging 0x19 1 (report (0xB7 ∷ 0x00 ∷ 0x00 ∷ 0x00 ∷ empties 11 [])) roomy accepted (voidTable 48) ∷
+    turned 0x19 (report (0xB7 ∷ 0x00 ∷ 0x00 ∷ 0x00 ∷ empties 10 [])) (refusedAt 11 67 37 183 0) (report (0xB7 ∷ 0x00 ∷ 0x00 ∷ 0x00 ∷ empties 10 [])) ∷
+    voided 0x19 (report (0xB7 ∷ 0x00 ∷ 0x00 ∷ 0x00 ∷ empties 11 [])) 48 (report (0xB7 ∷ 0x00 ∷ 0x00 ∷ 0x00 ∷ empties 11 [])) ∷
     -- eleven, and one octet more inside, or an element too long by one: 9, 67, 81, 0, 0
-    turned 0x1A (report (empties 11 (0x47 ∷ []))) (refusedAt 9 67 81 0 0) ∷
-    turned 0x1A (report (empties 11 (0x47 ∷ 0x00 ∷ 0x01 ∷ 0x00 ∷ []))) (refusedAt 9 67 81 0 0) ∷
+    turned 0x1A (report (empties 11 (0x47 ∷ []))) (refusedAt 9 67 81 0 0) [] ∷
+    turned 0x1A (report (empties 11 (0x47 ∷ 0x00 ∷ 0x01 ∷ 0x00 ∷ []))) (refusedAt 9 67 81 0 0) [] ∷
     -- a second 180/0 behind a void one is no repeat, and has its own mandatory pairs: 12, 70, 81, 183, 0
-    turned 0x1B (reportOf 0x51 0x2C (empties 11 (0xB4 ∷ 0x00 ∷ 0x00 ∷ 0x00 ∷ []))) (refusedAt 12 70 81 183 0) ∷
+    turned 0x1B (reportOf 0x51 0x2C (empties 11 (0xB4 ∷ 0x00 ∷ 0x00 ∷ 0x00 ∷ []))) (refusedAt 12 70 81 183 0)
+    (reportOf 0x51 0x2C (empties 11 (0xB4 ∷ 0x00 ∷ 0x00 ∷ 0x00 ∷ []))) ∷
     -- every value inside is covered whole, whatever its type, and no header
-    asked masking 0x1C 1 (report mixed) (replicate 98 7) accepted (report mixedMasked) ∷
+    voided 0x1C (report mixed) 61 (report mixedMasked) ∷
     []
 
 -- what comes out, and what is written
 abbrev pub outcome : Example → Outcome
-outcome x = by (x .call)
-  where
-    by : Call → Outcome
-    by judging = record { verdict = judgeVerdict book (x .kind) (x .message) (length (x .lent)); left = judgeTable book (x .kind) (x .message) (x .lent) }
-    by masking = record { verdict = maskVerdict book (x .kind) (x .message) (length (x .lent)); left = maskCopy book (x .kind) (x .message) (x .lent) }
+outcome x = record {
+  verdict = callVerdict book (x .kind) (x .message) (length (x .copy)) (length (x .table));
+  table = callTable book (x .kind) (x .message) (length (x .copy)) (x .table);
+  copy = callCopy book (x .kind) (x .message) (length (x .table)) (x .copy);
+}
 
 abbrev pub written : Example → Outcome
-written x = record { verdict = x .verdict; left = x .left }
+written x = record { verdict = x .verdict; table = x .table-left; copy = x .copy-left }

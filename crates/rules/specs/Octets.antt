@@ -8,7 +8,7 @@ use Rattle.rules.specs.Sizes.{fiveOctets, answerOctets}
 use Rattle.rules.specs.Framing.{messageType}
 use Rattle.rules.specs.Listings.{Book}
 use Rattle.rules.specs.Table.{laid, tableOf}
-use Rattle.rules.specs.Verdicts.{items, refuses, judgeVerdict}
+use Rattle.rules.specs.Verdicts.{items, refuses, callVerdict}
 use Rattle.rules.specs.declared.Verdict.{Verdict}
 
 unfoldable pub octetsOf : List ℕ → List ℕ
@@ -42,6 +42,7 @@ answerLaid v n buffer = cond (ltb (length buffer) answerOctets) buffer (laid (oc
 abbrev pub tableRoom : List ℕ → ℕ
 tableRoom octets = length octets / 2
 
-unfoldable pub judgeOctets : Book → ℕ → List ℕ → List ℕ → List ℕ
-judgeOctets b k m octets =
-    cond (refuses (judgeVerdict b k m (tableRoom octets))) octets (laid (octetsOf (tableOf (messageType m) k (items b k m))) octets)
+-- what the one call leaves in a table lent so, beside a copy buffer of so many octets
+unfoldable pub callOctets : Book → ℕ → List ℕ → ℕ → List ℕ → List ℕ
+callOctets b k m room octets =
+    cond (refuses (callVerdict b k m room (tableRoom octets))) octets (laid (octetsOf (tableOf (messageType m) k (items b k m))) octets)

@@ -9,7 +9,7 @@ use Rattle.rules.specs.Sizes.{largestMessage, mostRows, used}
 use Rattle.rules.specs.Listings.{Book, book}
 use Rattle.rules.specs.Standing.{Item}
 use Rattle.rules.specs.Table.{row, keptRows, laid}
-use Rattle.rules.specs.Verdicts.{items, refuses, judgeVerdict}
+use Rattle.rules.specs.Verdicts.{items, refuses, callVerdict}
 use Rattle.rules.specs.Octets.{five}
 
 -- the kind comes first, in one octet; without input it is 0 (rule 10.1)
@@ -52,12 +52,13 @@ acceptWord = 97 ∷ 99 ∷ 99 ∷ 101 ∷ 112 ∷ 116 ∷ []
 abbrev pub refuseWord : List ℕ
 refuseWord = 114 ∷ 101 ∷ 102 ∷ 117 ∷ 115 ∷ 101 ∷ []
 
--- the counts and a line for each row where it is accepted, else the five numbers (rule 10.2)
+-- with a copy buffer and a table that are large enough for any message (rule 10.2): the counts and a line for each row where it is accepted, else the five
+-- numbers
 module _ (b : Book) (k : ℕ) (m : List ℕ) where
   unfoldable pub textOf : List ℕ
   textOf =
-      cond (refuses (judgeVerdict b k m (used mostRows)))
-      (refuseWord ++ blanked (five (judgeVerdict b k m (used mostRows))))
+      cond (refuses (callVerdict b k m largestMessage (used mostRows)))
+      (refuseWord ++ blanked (five (callVerdict b k m largestMessage (used mostRows))))
       (acceptWord ++ (blanked (length (items b k m) ∷ keptRows (items b k m) ∷ []) ++ rowLines (items b k m)))
 
 -- How much of the text there is room for, and the buffer with that over its start.

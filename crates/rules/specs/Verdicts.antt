@@ -135,33 +135,52 @@ module _ (b : Book) (k : ℕ) (m : List ℕ) where
   abbrev pub copyCheck : ℕ → Verdict
   copyCheck room = check (ltb room (length m)) (refused 13 0)
 
-  -- what the judge checks, with a table of so many numbers: 10, 11, 12 after framing
+  -- 10, 11 and 12, with a table of so many numbers
   abbrev pub tableChecks : ℕ → List Verdict
   tableChecks room = roomCheck room ∷ shortVerdict items ∷ lackVerdict b k (bodyLevel b m) items ∷ []
 
+  -- ---- the one call, with a copy buffer of so many octets and a table of so many numbers
+
+  -- 13 and 10 after framing: these leave all as it was lent
+  unfoldable pub lentChecks : ℕ → ℕ → List Verdict
+  lentChecks octets room = framingChecks ++ (copyCheck octets ∷ roomCheck room ∷ [])
+
+  -- then 11 and 12
+  unfoldable pub callChecks : ℕ → ℕ → List Verdict
+  callChecks octets room = framingChecks ++ (copyCheck octets ∷ tableChecks room)
+
+  abbrev pub callVerdict : ℕ → ℕ → Verdict
+  callVerdict octets room = first (callChecks octets room)
+
+  -- the table is written only on acceptance
+  unfoldable pub callTable : ℕ → List ℕ → List ℕ
+  callTable octets table = cond (refuses (callVerdict octets (length table))) table (laid (tableOf (messageType m) k items) table)
+
+  -- ---- its two halves
+
+  -- with no copy asked for: what it says, and leaves in the table, where the copy has room
   unfoldable pub judgeChecks : ℕ → List Verdict
   judgeChecks room = framingChecks ++ tableChecks room
-
-  -- what the masker checks, with a copy buffer of so many octets: 13 after framing
-  unfoldable pub maskChecks : ℕ → List Verdict
-  maskChecks room = framingChecks ++ (copyCheck room ∷ [])
 
   abbrev pub judgeVerdict : ℕ → Verdict
   judgeVerdict room = first (judgeChecks room)
 
-  abbrev pub maskVerdict : ℕ → Verdict
-  maskVerdict room = first (maskChecks room)
-
-  -- the judge writes the table only on acceptance
   unfoldable pub judgeTable : List ℕ → List ℕ
   judgeTable table = cond (refuses (judgeVerdict (length table))) table (laid (tableOf (messageType m) k items) table)
 
--- the numbers of checks 1 to 9; those that the judge gives, in the order of its checks, and those of the masker
+  -- with no table asked for: up to 13
+  unfoldable pub maskChecks : ℕ → List Verdict
+  maskChecks room = framingChecks ++ (copyCheck room ∷ [])
+
+  abbrev pub maskVerdict : ℕ → Verdict
+  maskVerdict room = first (maskChecks room)
+
+-- the numbers of checks 1 to 9; those of the one call, in the order of its checks; and those without a copy
 abbrev pub framingNumbers : List ℕ
 framingNumbers = 1 ∷ 2 ∷ 3 ∷ 4 ∷ 5 ∷ 6 ∷ 7 ∷ 8 ∷ 9 ∷ []
 
+abbrev pub callNumbers : List ℕ
+callNumbers = framingNumbers ++ (13 ∷ 10 ∷ 11 ∷ 12 ∷ [])
+
 abbrev pub judgeNumbers : List ℕ
 judgeNumbers = framingNumbers ++ (10 ∷ 11 ∷ 12 ∷ [])
-
-abbrev pub maskNumbers : List ℕ
-maskNumbers = framingNumbers ++ (13 ∷ [])

@@ -30,8 +30,8 @@ pub struct Reading {
     pub lack: Verdict,
 }
 
-// What the judge decides of a message for a table of some room: the verdict, and the numbers of its table's header: rows, kept rows, and on
-// acceptance message type and kind, else 0.
+// What the one call decides of a message for a table and a copy of some room: the verdict, and the numbers of its table's header: rows, kept rows,
+// and on acceptance message type and kind, else 0.
 pub struct Decision {
     pub verdict: Verdict,
     pub rows: usize,

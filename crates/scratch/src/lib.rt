@@ -1,4 +1,4 @@
-// What a message is read into, room for few rows or for all, and which of them to try first; and what one is written into.
+// What a message is read into, room for few rows or for all, and which of them to try first; and what one is held in.
 ghost use mathlib.Core.Path.{_≡_};
 ghost use Prim.Native.Nat.{_+_, _<_};
 ghost use lib.ListN.{length};
@@ -19,7 +19,20 @@ pub fn large() -> [u16; 6132]
     [0u16; 6132]
 }
 
-// What a message is written into before it is known to be right: room for any.
+// A table with room for 1,022 rows.
+pub fn table() -> [u16; 6138]
+    ensures { λ r. ⌜ Zeros 6138 r ⌝ }
+{
+    [0u16; 6138]
+}
+
+// What a message is held in: room for one that has 64 rows at most, and for any.
+pub fn slip() -> [u8; 264]
+    ensures { λ r. ⌜ Zeros 264 r ⌝ }
+{
+    [0u8; 264]
+}
+
 pub fn page() -> [u8; 4096]
     ensures { λ r. ⌜ Zeros 4096 r ⌝ }
 {

@@ -13,16 +13,15 @@ use lib.Seq.{take-all, getD-take}
 use Rattle.rules.specs.Sizes.{largestMessage, mostRows, used}
 use Rattle.rules.specs.Framing.{octet, version, flagT, messageType, lengthField, headerLength}
 use Rattle.rules.specs.Listings.{book}
-use Rattle.rules.specs.Verdicts.{refused, check, refuses, first, framingChecks, copyCheck, maskChecks, judgeVerdict, maskVerdict}
-use Rattle.rules.specs.Covered.{maskCopy}
+use Rattle.rules.specs.Verdicts.{refuses, first, framingChecks, callVerdict}
+use Rattle.rules.specs.Covered.{callCopy}
 use Rattle.rules.specs.Values.{isOf, tableRows, rowSpan, deskSpan}
 use Rattle.rules.specs.declared.Verdict.{Verdict}
 use Rattle.rules.proofs.Book.{book-sound}
-use Rattle.rules.proofs.Checks.{first-append}
 use Rattle.rules.proofs.Header.{framed}
 use Rattle.promises.specs.Agreeing.{SameOpen}
-use Rattle.promises.proofs.Agreeing.{refused-same, same-reading, same-taken}
-use Rattle.promises.proofs.Main.{both-verdict, both-mask-verdict, both-copy}
+use Rattle.promises.proofs.Agreeing.{refused-same, same-reading, same-taken, same-framing}
+use Rattle.promises.proofs.Main.{both-verdict, both-copy}
 use Rattle.wording.specs.Pieces.{forEach}
 use Rattle.columns.specs.Rows.{rowLine, rowLines}
 use Rattle.columns.specs.declared.View.{View}
@@ -36,13 +35,13 @@ counted m = take (largestMessage + 1) m
 
 -- ---- a message that 1 to 9 refuse
 
--- two messages on one kind that the masker refuses, alike in all that is told of them
+-- two messages on one kind that 1 to 9 refuse, alike in all that is told of them
 pub record RefusedAlike (k : ℕ) (m n : List ℕ) : Type 0 where
-  pub refusal : refuses (maskVerdict book k m (length m)) ≡ true
-  pub verdict : maskVerdict book k n (length n) ≡ maskVerdict book k m (length m)
+  pub refusal : refuses (first (framingChecks book k m)) ≡ true
+  pub verdict : first (framingChecks book k n) ≡ first (framingChecks book k m)
   pub size : length n ≡ length m
   pub first-four : take 4 n ≡ take 4 m
-  pub reason : reasonOf k n (maskVerdict book k m (length m)) ≡ reasonOf k m (maskVerdict book k m (length m))
+  pub reason : reasonOf k n (first (framingChecks book k m)) ≡ reasonOf k m (first (framingChecks book k m))
 
 -- of the octets the first four are said
 run-blind : (k : ℕ) (m n : List ℕ) (v : Verdict) (reason : ℕ) → length n ≡ length m → take 4 n ≡ take 4 m → refusedRun k n v reason ≡ refusedRun k m v reason
@@ -60,7 +59,7 @@ module _ (names : List ℕ) (w : View) (r : w .right ≡ false) where
   pub refused-blind : (m n : List ℕ) → RefusedAlike (w .kind) (counted m) (counted n) → pageOn names w n ≡ pageOn names w m
   unfolding pageOn pageOf page
   refused-blind m n a =
-      rw (a .verdict, a .refusal) (of-refused (maskVerdict book (w .kind) (counted m) (length (counted m))) (counted m) (counted n) (a .size) (a .first-four) (a .reason))
+      rw (a .verdict, a .refusal) (of-refused (first (framingChecks book (w .kind) (counted m))) (counted m) (counted n) (a .size) (a .first-four) (a .reason))
 
   -- ---- a message that was read
 
@@ -94,11 +93,6 @@ module _ (names : List ℕ) (w : View) (r : w .right ≡ false) where
     abbrev k : ℕ
     k = w .kind
 
-    -- the masker has room
-    mask-passes : refuses (first (framingChecks book k m)) ≡ false → refuses (maskVerdict book k m (length m)) ≡ false
-    unfolding maskChecks first check
-    mask-passes e = rw (first-append (framingChecks book k m) (copyCheck book k m (length m) ∷ []), e, le-ltb (length m) (length m) (omega arith))
-
     -- the type is open
     type-same : octet n 1 ≡ octet m 1
     unfolding messageType
@@ -108,13 +102,18 @@ module _ (names : List ℕ) (w : View) (r : w .right ≡ false) where
     unfolding tableRead messageType
     table-same = rw (same-taken book book-sound k m n s, type-same)
 
+    framing-same : first (framingChecks book k n) ≡ first (framingChecks book k m)
+    framing-same = ap first (same-framing book book-sound k m n s)
+
     read-unseen : refuses (first (framingChecks book k m)) ≡ false → pageOf names w n ≡ pageOf names w m
     unfolding pageOf page
     read-unseen e =
-        let masking : maskVerdict book k n (length n) ≡ maskVerdict book k m (length m) = both-mask-verdict k m n s (length n) ∙ ap (maskVerdict book k m) (s .size) in
-        let copy : maskCopy book k n (copyRoom n) ≡ maskCopy book k m (copyRoom m) = both-copy k m n s (copyRoom n) ∙ ap (λ c. maskCopy book k m (replicate c 0)) (s .size) in
-        rw (masking, mask-passes e, both-verdict k m n s (used mostRows), table-same, copy)
-        (page-blind m n (s .size) type-same (judgeVerdict book k m (used mostRows)) (tableRead k m) (maskCopy book k m (copyRoom m)))
+        let v : callVerdict book k n (length n) (used mostRows) ≡ callVerdict book k m (length m) (used mostRows)
+        = both-verdict k m n s (length n) (used mostRows) ∙ ap (λ (c : ℕ). callVerdict book k m c (used mostRows)) (s .size) in
+        let copy : callCopy book k n (used mostRows) (copyRoom n) ≡ callCopy book k m (used mostRows) (copyRoom m)
+        = both-copy k m n s (used mostRows) (copyRoom n) ∙ ap (λ (c : ℕ). callCopy book k m (used mostRows) (replicate c 0)) (s .size) in
+        rw (framing-same, e, v, table-same, copy)
+        (page-blind m n (s .size) type-same (callVerdict book k m (length m) (used mostRows)) (tableRead k m) (callCopy book k m (used mostRows) (copyRoom m)))
 
     pub covered-unseen : pageOn names w n ≡ pageOn names w m
     unfolding pageOn

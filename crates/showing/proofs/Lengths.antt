@@ -9,11 +9,10 @@ use lib.ListN.{length, take, getD, length-append, length-take}
 use Rattle.rules.specs.Sizes.{mostRows, used}
 use Rattle.rules.specs.Listings.{book}
 use Rattle.rules.specs.Table.{header, tableOf, laid}
-use Rattle.rules.specs.Verdicts.{refuses, first, framingChecks, copyCheck, maskChecks, judgeVerdict, maskVerdict, items}
-use Rattle.rules.specs.Covered.{maskCopy}
+use Rattle.rules.specs.Verdicts.{refuses, first, framingChecks, callVerdict, items}
+use Rattle.rules.specs.Covered.{callCopy}
 use Rattle.rules.specs.Values.{isOf, tableRows}
 use Rattle.rules.specs.declared.Verdict.{Verdict}
-use Rattle.rules.proofs.Checks.{both-pass}
 use Rattle.rules.proofs.Readings.{few, count-is}
 use Rattle.columns.specs.Rows.{rowLines}
 use Rattle.columns.specs.declared.View.{View}
@@ -44,21 +43,21 @@ module _ (names : List ℕ) (w : View) (f : w .full ≡ false) where
       )
 
   of-length : (m : List ℕ) → length m ≤ 4097 → length (pageOf names w m) ≤ 163840
-  unfolding pageOf page maskChecks
-  of-length m l = go (refuses (maskVerdict book (w .kind) m (length m))) refl
+  unfolding pageOf page
+  of-length m l = go (refuses framing) refl
     where
+      framing : Verdict
+      framing = first (framingChecks book (w .kind) m)
+
       copy : List ℕ
-      copy = maskCopy book (w .kind) m (copyRoom m)
+      copy = callCopy book (w .kind) m (used mostRows) (copyRoom m)
 
       v : Verdict
-      v = judgeVerdict book (w .kind) m (used mostRows)
+      v = callVerdict book (w .kind) m (length m) (used mostRows)
 
-      go : (c : Bool) → refuses (maskVerdict book (w .kind) m (length m)) ≡ c
-          → length (cond c (refusedPage names w (maskVerdict book (w .kind) m (length m)) m) (readPage names w v (tableRead (w .kind) m) m copy)) ≤ 163840
-      go true e = omega (arith, refused-length names w (maskVerdict book (w .kind) m (length m)) m)
-      go false e =
-          read-length v (tableRead (w .kind) m) m copy
-          (rows-few (w .kind) m (both-pass (framingChecks book (w .kind) m) (copyCheck book (w .kind) m (length m) ∷ []) e .0))
+      go : (c : Bool) → refuses framing ≡ c → length (cond c (refusedPage names w framing m) (readPage names w v (tableRead (w .kind) m) m copy)) ≤ 163840
+      go true e = omega (arith, refused-length names w framing m)
+      go false e = read-length v (tableRead (w .kind) m) m copy (rows-few (w .kind) m e)
 
   pub page-fits : (m : List ℕ) → length (pageOn names w m) ≤ 163840
   unfolding pageOn

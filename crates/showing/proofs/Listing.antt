@@ -1,7 +1,7 @@
--- The table that the rows are shown of: it is the message's own, and the judge's where that accepts. Assumes nothing.
+-- The table that the rows are shown of: it is the message's own, and the call's where that accepts. Assumes nothing.
 --     headed          the counts of a decision fit
 --     listed          a header before the rows that a decision leaves makes the message's table
---     judged-table    which is what the judge leaves, where it accepts
+--     called-table    which is what the call leaves, where it accepts
 --     all-shown       it is of the message on the kind by its own header, so the lookups find all its rows
 use mathlib.Core.Path.{_≡_, refl, sym, ap, _∙_}
 use mathlib.Core.Bool.{Bool, true, false, cond, _||_}
@@ -12,12 +12,13 @@ use borrow.Author.Tests.{lt-ltb, eqb-true}
 use lib.Dec.{eqb}
 use lib.ListN.{length, take, drop, replicate, length-replicate, length-append, length-drop, drop-of-length-le}
 use lib.Seq.{drop-drop, drop-at, take-all, length-take-le}
-use Rattle.rules.specs.Sizes.{mostRows, rowNumbers, used}
+use Rattle.rules.specs.Sizes.{largestMessage, mostRows, rowNumbers, used}
 use Rattle.rules.specs.Framing.{octet, messageType}
 use Rattle.rules.specs.Types.{among}
 use Rattle.rules.specs.Listings.{book}
 use Rattle.rules.specs.Table.{rowsOf, keptRows, header, tableOf, laid}
-use Rattle.rules.specs.Verdicts.{refuses, first, framingChecks, judgeVerdict, judgeTable, items}
+use Rattle.rules.specs.Verdicts.{refuses, first, framingChecks, callVerdict, callTable, items}
+use Rattle.rules.specs.Covered.{callCopy}
 use Rattle.rules.specs.Taking.{itemsIn}
 use Rattle.rules.specs.Values.{tableRows}
 use Rattle.rules.specs.Answers.{readingOf, decisionOf, Decided}
@@ -32,9 +33,9 @@ use Rattle.tables.proofs.Rowed.{laid-begins, laid-of, count-of}
 use Rattle.tables.proofs.Soundness.{is-table}
 use Rattle.promises.proofs.Lookups.{is-of}
 use Rattle.scratch.specs.Zeros.{Zeros}
-use Rattle.judging.proofs.Accepted.{verdict-is, most-rows}
+use Rattle.calling.proofs.Settling.{verdict-is, most-rows, copy-is}
 use Rattle.phrases.specs.Sentences.{narrow}
-use Rattle.showing.specs.Showing.{tableRoom, tableRead, headOf, Headed, Listed}
+use Rattle.showing.specs.Showing.{tableRoom, copyRoom, tableRead, Listed}
 
 room-size : length tableRoom ≡ 6138
 room-size = length-replicate {A = ℕ} 6138 0
@@ -62,6 +63,10 @@ kind-narrow : (k : ℕ) (m : List ℕ) → refuses (first (framingChecks book k 
 unfolding narrow
 kind-narrow k m e = rw (lt-ltb k 65536 (omega (arith, known k (framed book k m e .0 .kind))))
 
+-- the header of the table of a decision
+abbrev headOf : Decision → ℕ → ℕ → List ℕ
+headOf d typ kind = d .rows ∷ d .kept ∷ 6 ∷ used (d .rows) ∷ typ ∷ kind ∷ []
+
 -- the rows are lent the table from its seventh number on, and come back there
 abbrev lent : List ℕ → List ℕ
 lent room = take (length room - 6) (drop 6 room)
@@ -81,17 +86,16 @@ module _ (room : List ℕ) (z : Zeros 6138 room) where
       let l : length (drop 6 room) ≤ length room - 6 = omega (arith, length-drop 6 room) in
       drop-at (take 6 room) (rows ++ drop (length room - 6) (drop 6 room)) 6 six ∙ rw (drop-of-length-le (drop 6 room) l, append-nil rows)
 
-  module _ (k : ℕ) (m : List ℕ) {rows : List ℕ} {d : Decision} (x : Decided k m (lent room) (used mostRows) d rows) where
+  module _ (k : ℕ) (m : List ℕ) {copy₀ rows copy : List ℕ} {d : Decision} (x : Decided k m (lent room) (used mostRows) copy₀ d rows copy) where
     kept-few : d .kept ≤ d .rows
     unfolding decisionOf
     kept-few = rw (x .answers) (reading-kept k m)
 
-    pub headed : Headed d (length (back room rows))
-    headed = record {
-      few = most-rows k m x;
-      kept-few = kept-few;
-      fits = omega (arith, six, length-append (take 6 room) (rows ++ drop (length room - 6) (drop 6 room)));
-    }
+    pub headed : (d .rows ≤ largestMessage) × (d .kept ≤ d .rows) × (6 ≤ length (back room rows))
+    headed = (omega (arith, most-rows k m x), kept-few, omega (arith, six, length-append (take 6 room) (rows ++ drop (length room - 6) (drop 6 room))))
+
+    roomy : rowNumbers * readingOf book k m .rows ≤ length (lent room)
+    roomy = omega (arith, few book k m, ap length lent-is, length-drop 6 room, z .size)
 
     own : {typ kind : ℕ} → typ ≡ octet m 1 → kind ≡ narrow k → refuses (first (framingChecks book k m)) ≡ false → headOf d typ kind ++ rows ≡ tableRead k m
     unfolding decisionOf tableRead tableOf header laid messageType
@@ -99,18 +103,25 @@ module _ (room : List ℕ) (z : Zeros 6138 room) where
         let is = items book k m in
         let n : d .rows ≡ length is = rw (x .answers) (count-is book k m e) in
         let c : d .kept ≡ keptRows is = rw (x .answers) (kept-is book k m e) in
-        let there : rowNumbers * readingOf book k m .rows ≤ length (lent room) = omega (arith, few book k m, ap length lent-is, length-drop 6 room, z .size) in
-        let all : rows ≡ rowsOf is ++ drop (length (rowsOf is)) (lent room) = x .rows-left ∙ all-laid book k m e (lent room) there in
+        let all : rows ≡ rowsOf is ++ drop (length (rowsOf is)) (lent room) = x .rows-left ∙ all-laid book k m e (lent room) roomy in
         let long : length (tableOf (messageType m) k is) ≡ 6 + length (rowsOf is) = omega arith in
         rw (n, c, y, w ∙ kind-narrow k m e, all, lent-is, drop-drop (length (rowsOf is)) 6 room, z .is, ← long)
 
-    pub listed : {typ kind : ℕ} {table : List ℕ} → typ ≡ octet m 1 → kind ≡ narrow k → table ≡ headOf d typ kind ++ drop 6 (back room rows) → Listed k m (d .verdict) table
-    listed y w t = record { answers = verdict-is k m x; listed = λ e. t ∙ rw (back-is rows) (own y w e) }
+    pub listed : {typ kind : ℕ} {table : List ℕ} → copy₀ ≡ copyRoom m → typ ≡ octet m 1 → kind ≡ narrow k → table ≡ headOf d typ kind ++ drop 6 (back room rows)
+        → Listed k m (d .verdict) table copy
+    unfolding decisionOf
+    listed o y w t =
+        let size : length copy₀ ≡ length m = ap length o ∙ length-replicate {A = ℕ} (length m) 0 in
+        record {
+          answers = verdict-is k m x ∙ ap (λ (n : ℕ). callVerdict book k m n (used mostRows)) size;
+          listed = λ e. t ∙ rw (back-is rows) (own y w e);
+          copied = copy-is k m x (rw (x .answers) roomy) ∙ ap (callCopy book k m (used mostRows)) o;
+        }
 
--- where the judge accepts, the table is the one that it leaves
-pub judged-table : (k : ℕ) (m : List ℕ) → refuses (judgeVerdict book k m (used mostRows)) ≡ false → tableRead k m ≡ judgeTable book k m tableRoom
-unfolding tableRead judgeTable
-judged-table k m e = let s : refuses (judgeVerdict book k m (length tableRoom)) ≡ false = rw room-size e in rw s
+-- where the call accepts, the table is the one that it leaves
+pub called-table : (k : ℕ) (m : List ℕ) (octets : ℕ) → refuses (callVerdict book k m octets (used mostRows)) ≡ false → tableRead k m ≡ callTable book k m octets tableRoom
+unfolding tableRead callTable
+called-table k m octets e = let s : refuses (callVerdict book k m octets (length tableRoom)) ≡ false = rw room-size e in rw s
 
 -- by its own header it is this message's on this kind, so each of its rows has a line on the page
 pub all-shown : (k : ℕ) (m : List ℕ) → refuses (first (framingChecks book k m)) ≡ false → tableRows k m (tableRead k m) ≡ length (items book k m)

@@ -1,30 +1,29 @@
 -- Acceptance is given exactly where no condition holds, and every answer is acceptance or has one of the numbers: either no check applies, or one is
 -- the first that does, and that one has its number. Assumes nothing.
---     none-accepts   over any list of checks and conditions       judge-accepting, mask-accepting   of the judge and the masker
---     judge-codes, mask-codes                                   every answer
+--     none-accepts   over any list of checks and conditions       call-accepting   of the one call
+--     call-codes, judge-codes                                   every answer, and with no copy asked for
 use mathlib.Core.Path.{_≡_, refl}
 use mathlib.Core.Logic.{_⊎_, inl, inr, _↔_}
 use mathlib.Core.Bool.{Bool, true, false}
 use mathlib.Core.List.{List, [], _∷_}
 use Prim.Native.Nat.{ℕ, zero, suc, _<_}
 use native.Mathlib.Omega.{arith}
-use borrow.Author.Tests.{eq-eqb}
-use lib.Dec.{eqb, ltb}
+use lib.Dec.{ltb}
 use lib.ListN.{length, getD}
 use Rattle.rules.specs.Sizes.{headerNumbers}
 use Rattle.rules.specs.Types.{among}
 use Rattle.rules.specs.Listings.{Book}
 use Rattle.rules.specs.Sound.{sound}
 use Rattle.rules.specs.Values.{tableType, tableKind}
-use Rattle.rules.specs.Verdicts.{accepted, refuses, check, first, judgeChecks, maskChecks, judgeVerdict, maskVerdict, judgeNumbers, maskNumbers}
+use Rattle.rules.specs.Verdicts.{accepted, refuses, check, first, judgeChecks, callChecks, judgeVerdict, callVerdict, judgeNumbers, callNumbers}
 use Rattle.rules.specs.Cleaned.{cleanChecks, cleanVerdict, cleanNumbers}
 use Rattle.rules.specs.Built.{buildChecks, headedChecks, buildVerdict, buildNumbers}
 use Rattle.rules.specs.declared.Verdict.{Verdict}
-use Rattle.rules.proofs.Checks.{AllPass, all-pass, first-pass, OwnCase}
-use Rattle.rules.proofs.Header.{judge-case, mask-case, clean-case, build-case}
-use Rattle.verdicts.specs.Conditions.{judgeConditions, maskConditions}
-use Rattle.tables.proofs.Tests.{clash, or-left, or-right}
-use Rattle.verdicts.proofs.Cases.{Step, none-applies, judge-step, mask-step, judge-count, mask-count, clean-count}
+use Rattle.rules.proofs.Checks.{AllPass, all-pass, first-pass, number-among, OwnCase}
+use Rattle.rules.proofs.Header.{call-case, judge-case, clean-case, build-case}
+use Rattle.verdicts.specs.Conditions.{callConditions}
+use Rattle.tables.proofs.Tests.{clash}
+use Rattle.verdicts.proofs.Cases.{Step, none-applies, call-step, call-count, judge-count, clean-count}
 
 pass-all : (vs : List Verdict) → ((i : ℕ) → i < length vs → refuses (getD vs i accepted) ≡ false) → AllPass vs
 unfolding AllPass
@@ -66,11 +65,6 @@ first-own (v ∷ vs) = go (refuses v) refl (first-own vs)
         before zero l = e
         before (suc i) l = x .2 .none-before i (omega arith)
 
-number-among : (ns : List ℕ) (j : ℕ) → j < length ns → among (getD ns j 0) ns ≡ true
-number-among [] j l = absurd (omega arith)
-number-among (n ∷ ns) zero l = or-left (eqb n n) (among n ns) (eq-eqb n n refl)
-number-among (n ∷ ns) (suc j) l = or-right (eqb (getD ns j 0) n) (among (getD ns j 0) ns) (number-among ns j (omega arith))
-
 -- acceptance, or one of the numbers
 abbrev pub OneOf : List ℕ → Verdict → Type 0
 OneOf ns v = (v ≡ accepted) ⊎ (among (v .code) ns ≡ true)
@@ -82,18 +76,17 @@ one-of vs ns len own = go (first-own vs)
     go (inl a) = inl (first-pass vs a)
     go (inr x) = let l : x .0 < length ns = omega (arith, x .1, len) in inr (rw (own (x .0) l (x .2)) (number-among ns (x .0) l))
 
-module _ (b : Book) (fine : sound b ≡ true) (k : ℕ) (m : List ℕ) (room : ℕ) where
-  pub judge-accepting : (judgeVerdict b k m room ≡ accepted) ↔ NoneHolds (judgeConditions b k m room) (length judgeNumbers)
-  judge-accepting = none-accepts (judgeChecks b k m room) (judgeConditions b k m room) 12 (judge-count b k m room) (judge-step b fine k m room)
+pub call-accepting : (b : Book) (fine : sound b ≡ true) (k : ℕ) (m : List ℕ) (octets room : ℕ)
+    → (callVerdict b k m octets room ≡ accepted) ↔ NoneHolds (callConditions b k m octets room) (length callNumbers)
+call-accepting b fine k m octets room =
+    none-accepts (callChecks b k m octets room) (callConditions b k m octets room) 13 (call-count b k m room octets) (call-step b fine k m octets room)
 
-  pub mask-accepting : (maskVerdict b k m room ≡ accepted) ↔ NoneHolds (maskConditions b k m room) (length maskNumbers)
-  mask-accepting = none-accepts (maskChecks b k m room) (maskConditions b k m room) 10 (mask-count b k m room) (mask-step b fine k m room)
+module _ (b : Book) (fine : sound b ≡ true) (k : ℕ) (m : List ℕ) (room : ℕ) where
+  pub call-codes : (octets : ℕ) → OneOf callNumbers (callVerdict b k m octets room)
+  call-codes octets = one-of (callChecks b k m octets room) callNumbers (call-count b k m room octets) (λ j l. call-case b k m octets room j l .1)
 
   pub judge-codes : OneOf judgeNumbers (judgeVerdict b k m room)
   judge-codes = one-of (judgeChecks b k m room) judgeNumbers (judge-count b k m room) (λ j l. judge-case b k m room j l .1)
-
-  pub mask-codes : OneOf maskNumbers (maskVerdict b k m room)
-  mask-codes = one-of (maskChecks b k m room) maskNumbers (mask-count b k m room) (λ j l. mask-case b k m room j l .1)
 
   pub clean-codes : OneOf cleanNumbers (cleanVerdict b k m room)
   clean-codes = one-of (cleanChecks b k m room) cleanNumbers (clean-count b k m room) (λ j l. clean-case b k m room j l .1)

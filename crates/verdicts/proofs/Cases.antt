@@ -1,6 +1,6 @@
 -- Demand 1: each number is given exactly in its own case, in words, and comes with what it names. Assumes nothing.
---     own-words    over any list of checks and conditions          judge-words, mask-words   of the judge and the masker
---     judge-says, mask-says                                        what each number comes with
+--     own-words    over any list of checks and conditions          call-words, judge-words   of the one call, and with no copy asked for
+--     call-says                                                    what each number comes with
 use mathlib.Core.Path.{_≡_, refl, sym, _∙_}
 use mathlib.Core.Logic.{_⊎_, inl, inr, _↔_, _≢_}
 use mathlib.Core.Bool.{Bool, true, false, not, _||_, Bool·beq}
@@ -19,13 +19,13 @@ use Rattle.rules.specs.Standing.{Item}
 use Rattle.rules.specs.Taking.{Out, cut, whole, taken, bodyLevel}
 use Rattle.rules.specs.Sound.{sound}
 use Rattle.rules.specs.Table.{tableOf}
-use Rattle.rules.specs.Verdicts.{accepted, refused, refusedAt, invalidLength, check, refuses, first, cutCheck, headerChecks, framingChecks, items, shortVerdict, lackVerdict, tableChecks, copyCheck, judgeChecks, maskChecks, judgeVerdict, maskVerdict, judgeNumbers, maskNumbers}
+use Rattle.rules.specs.Verdicts.{accepted, refused, refusedAt, invalidLength, check, refuses, first, cutCheck, headerChecks, framingChecks, items, shortVerdict, lackVerdict, tableChecks, copyCheck, judgeChecks, callChecks, judgeVerdict, callVerdict, judgeNumbers, callNumbers}
 use Rattle.rules.specs.Cleaned.{cleanChecks}
 use Rattle.rules.specs.declared.Verdict.{Verdict}
 use Rattle.rules.proofs.Mets.{cut-met, met-cut}
 use Rattle.rules.proofs.Checks.{AllPass, all-pass, OwnCase}
-use Rattle.rules.proofs.Header.{framed, judge-case, mask-case}
-use Rattle.verdicts.specs.Conditions.{CutIn, numbers, framingConditions, tableConditions, copyConditions, judgeConditions, maskConditions, OwnWords, framingWords, tableWords, copyWords, judgeWords, maskWords}
+use Rattle.rules.proofs.Header.{framed, judge-case, call-case}
+use Rattle.verdicts.specs.Conditions.{CutIn, numbers, framingConditions, tableConditions, copyConditions, judgeConditions, callConditions, OwnWords, framingWords, tableWords, copyWords, callWords}
 use Rattle.verdicts.specs.Missing.{ShortRow, Lacks}
 use Rattle.tables.proofs.Tests.{clash, true-or}
 use Rattle.tables.proofs.Rowed.{own-begins}
@@ -136,7 +136,7 @@ module _ (b : Book) (k : ℕ) (m : List ℕ) where
   framing-step vs cs (suc (suc (suc (suc (suc (suc (suc (suc zero)))))))) l p = cut-case (taken b k m) refl
   framing-step vs cs (suc (suc (suc (suc (suc (suc (suc (suc (suc j))))))))) l p = absurd (omega arith)
 
-  -- ---- the judge and the masker
+  -- ---- the lists of checks
 
   -- checks 1 to 9 pass where none of the first nine applies
   nine-pass : (vs : List Verdict) → ((i : ℕ) → i < 9 → refuses (getD (framingChecks b k m ++ vs) i accepted) ≡ false) → refuses (first (framingChecks b k m)) ≡ false
@@ -159,12 +159,16 @@ module _ (b : Book) (fine : sound b ≡ true) (k : ℕ) (m : List ℕ) where
       let f = framed b k m e in let es = f .1 .0 in let w = f .1 .1 in
       rw w (missing-iff b fine k m (tableOf (messageType m) k es) es (own-begins (messageType m) k es) (walked-of b k m es w) (f .0 .listed))
 
-  last-step : (room i : ℕ) → i < 3 → Step (judgeChecks b k m room) (judgeConditions b k m room) (suc (suc (suc (suc (suc (suc (suc (suc (suc i)))))))))
+  -- 10 to 12, where 1 to 9 pass
+  table-step : (room i : ℕ) → i < 3 → refuses (first (framingChecks b k m)) ≡ false → (refuses (getD (tableChecks b k m room) i accepted) ≡ true) ↔ getD (tableConditions b k m room) i ⊥
+  table-step room zero l e = chain (on _ (refused 10 0) refl) (lt-is room (used (length (items b k m))))
+  table-step room (suc zero) l e = short-words e
+  table-step room (suc (suc zero)) l e = lack-words e
+  table-step room (suc (suc (suc i))) l e = absurd (omega arith)
+
+  judge-last : (room i : ℕ) → i < 3 → Step (judgeChecks b k m room) (judgeConditions b k m room) (suc (suc (suc (suc (suc (suc (suc (suc (suc i)))))))))
   unfolding judgeChecks framingChecks headerChecks
-  last-step room zero l p = chain (on _ (refused 10 0) refl) (lt-is room (used (length (items b k m))))
-  last-step room (suc zero) l p = short-words (nine-pass b k m (tableChecks b k m room) (λ i h. p i (omega arith)))
-  last-step room (suc (suc zero)) l p = lack-words (nine-pass b k m (tableChecks b k m room) (λ i h. p i (omega arith)))
-  last-step room (suc (suc (suc i))) l p = absurd (omega arith)
+  judge-last room i l p = table-step room i l (nine-pass b k m (tableChecks b k m room) (λ x h. p x (omega arith)))
 
   pub judge-step : (room j : ℕ) → j < 12 → Step (judgeChecks b k m room) (judgeConditions b k m room) j
   unfolding judgeChecks
@@ -172,30 +176,36 @@ module _ (b : Book) (fine : sound b ≡ true) (k : ℕ) (m : List ℕ) where
     where
       go : Dec (j < 9) → Step (judgeChecks b k m room) (judgeConditions b k m room) j
       go (yes h) = framing-step b k m (tableChecks b k m room) (tableConditions b k m room) j h
-      go (no h) = let z : j ≡ suc (suc (suc (suc (suc (suc (suc (suc (suc (j - 9))))))))) = omega arith in rw z (last-step room (j - 9) (omega arith))
+      go (no h) = let z : j ≡ suc (suc (suc (suc (suc (suc (suc (suc (suc (j - 9))))))))) = omega arith in rw z (judge-last room (j - 9) (omega arith))
 
-  pub mask-step : (room j : ℕ) → j < 10 → Step (maskChecks b k m room) (maskConditions b k m room) j
-  unfolding maskChecks framingChecks headerChecks
-  mask-step room j l = go (decLt j 9)
+  call-last : (octets room i : ℕ) → i < 4 → Step (callChecks b k m octets room) (callConditions b k m octets room) (suc (suc (suc (suc (suc (suc (suc (suc (suc i)))))))))
+  unfolding callChecks framingChecks headerChecks
+  call-last octets room zero l p = chain (on _ (refused 13 0) refl) (lt-is octets (length m))
+  call-last octets room (suc i) l p = table-step room i (omega arith) (nine-pass b k m (copyCheck b k m octets ∷ tableChecks b k m room) (λ x h. p x (omega arith)))
+
+  pub call-step : (octets room j : ℕ) → j < 13 → Step (callChecks b k m octets room) (callConditions b k m octets room) j
+  unfolding callChecks
+  call-step octets room j l = go (decLt j 9)
     where
-      go : Dec (j < 9) → Step (maskChecks b k m room) (maskConditions b k m room) j
-      go (yes h) = framing-step b k m (copyCheck b k m room ∷ []) (copyConditions b k m room) j h
-      go (no h) = let z : j ≡ 9 = omega arith in rw z (λ p. chain (on _ (refused 13 0) refl) (lt-is room (length m)))
+      go : Dec (j < 9) → Step (callChecks b k m octets room) (callConditions b k m octets room) j
+      go (yes h) = framing-step b k m (copyCheck b k m octets ∷ tableChecks b k m room) (copyConditions b k m octets ++ tableConditions b k m room) j h
+      go (no h) = let z : j ≡ suc (suc (suc (suc (suc (suc (suc (suc (suc (j - 9))))))))) = omega arith in rw z (call-last octets room (j - 9) (omega arith))
 
   pub judge-words : (room j : ℕ) → j < 12 → (judgeVerdict b k m room .code ≡ getD judgeNumbers j 0) ↔ OwnWords (judgeConditions b k m room) j
   judge-words room j l = chain (judge-case b k m room j l) (own-words (judgeChecks b k m room) (judgeConditions b k m room) j (λ i h. judge-step room i (omega arith)))
 
-  pub mask-words : (room j : ℕ) → j < 10 → (maskVerdict b k m room .code ≡ getD maskNumbers j 0) ↔ OwnWords (maskConditions b k m room) j
-  mask-words room j l = chain (mask-case b k m room j l) (own-words (maskChecks b k m room) (maskConditions b k m room) j (λ i h. mask-step room i (omega arith)))
+  pub call-words : (octets room j : ℕ) → j < 13 → (callVerdict b k m octets room .code ≡ getD callNumbers j 0) ↔ OwnWords (callConditions b k m octets room) j
+  call-words octets room j l =
+      chain (call-case b k m octets room j l) (own-words (callChecks b k m octets room) (callConditions b k m octets room) j (λ i h. call-step octets room i (omega arith)))
 
 module _ (b : Book) (k : ℕ) (m : List ℕ) (room : ℕ) where
   pub judge-count : length (judgeChecks b k m room) ≡ 12
   unfolding judgeChecks framingChecks headerChecks
   judge-count = refl
 
-  pub mask-count : length (maskChecks b k m room) ≡ 10
-  unfolding maskChecks framingChecks headerChecks
-  mask-count = refl
+  pub call-count : (octets : ℕ) → length (callChecks b k m octets room) ≡ 13
+  unfolding callChecks framingChecks headerChecks
+  call-count octets = refl
 
   pub clean-count : length (cleanChecks b k m room) ≡ 12
   unfolding cleanChecks framingChecks headerChecks
@@ -240,39 +250,40 @@ module _ (b : Book) (k : ℕ) (m : List ℕ) where
   framing-says vs ws (suc (suc (suc (suc (suc (suc (suc (suc (suc j))))))))) l o = absurd (omega arith)
 
 module _ (b : Book) (fine : sound b ≡ true) (k : ℕ) (m : List ℕ) (room : ℕ) where
-  last-says : (i : ℕ) → i < 3 → Says (judgeChecks b k m room) (judgeWords b k m) (suc (suc (suc (suc (suc (suc (suc (suc (suc i)))))))))
-  unfolding judgeChecks framingChecks headerChecks
-  last-says zero l o = says-own _ (refused 10 0) (o .applies)
-  last-says (suc zero) l o =
-      let f = framed b k m (nine-pass b k m (tableChecks b k m room) (λ i h. o .none-before i (omega arith))) in let es = f .1 .0 in let w = f .1 .1 in
-      rw w (short-first b fine k m (tableOf (messageType m) k es) es (own-begins (messageType m) k es) (walked-of b k m es w) (f .0 .listed) (rw w at (o .applies)))
-  last-says (suc (suc zero)) l o =
-      let f = framed b k m (nine-pass b k m (tableChecks b k m room) (λ i h. o .none-before i (omega arith))) in let es = f .1 .0 in let w = f .1 .1 in
-      rw w (missing-first b fine k m (tableOf (messageType m) k es) es (own-begins (messageType m) k es) (walked-of b k m es w) (f .0 .listed) (rw w at (o .applies)))
-  last-says (suc (suc (suc i))) l o = absurd (omega arith)
+  -- 10 to 12, where 1 to 9 pass
+  table-says : (i : ℕ) → i < 3 → refuses (first (framingChecks b k m)) ≡ false → refuses (getD (tableChecks b k m room) i accepted) ≡ true
+      → getD (tableWords b k m) i (λ v. ⊥) (getD (tableChecks b k m room) i accepted)
+  table-says zero l e a = says-own _ (refused 10 0) a
+  table-says (suc zero) l e a =
+      let f = framed b k m e in let es = f .1 .0 in let w = f .1 .1 in
+      rw w (short-first b fine k m (tableOf (messageType m) k es) es (own-begins (messageType m) k es) (walked-of b k m es w) (f .0 .listed) (rw w at a))
+  table-says (suc (suc zero)) l e a =
+      let f = framed b k m e in let es = f .1 .0 in let w = f .1 .1 in
+      rw w (missing-first b fine k m (tableOf (messageType m) k es) es (own-begins (messageType m) k es) (walked-of b k m es w) (f .0 .listed) (rw w at a))
+  table-says (suc (suc (suc i))) l e a = absurd (omega arith)
 
-  judge-saying : (j : ℕ) → j < 12 → Says (judgeChecks b k m room) (judgeWords b k m) j
+  call-later : (octets i : ℕ) → i < 4 → Says (callChecks b k m octets room) (callWords b k m) (suc (suc (suc (suc (suc (suc (suc (suc (suc i)))))))))
+  unfolding callChecks framingChecks headerChecks
+  call-later octets zero l o = says-own _ (refused 13 0) (o .applies)
+  call-later octets (suc i) l o =
+      table-says i (omega arith) (nine-pass b k m (copyCheck b k m octets ∷ tableChecks b k m room) (λ x h. o .none-before x (omega arith))) (o .applies)
+
+  call-saying : (octets j : ℕ) → j < 13 → Says (callChecks b k m octets room) (callWords b k m) j
+  unfolding callChecks
+  call-saying octets j l = go (decLt j 9)
+    where
+      go : Dec (j < 9) → Says (callChecks b k m octets room) (callWords b k m) j
+      go (yes h) = framing-says b k m (copyCheck b k m octets ∷ tableChecks b k m room) (copyWords b k m ++ tableWords b k m) j h
+      go (no h) = let z : j ≡ suc (suc (suc (suc (suc (suc (suc (suc (suc (j - 9))))))))) = omega arith in rw z (call-later octets (j - 9) (omega arith))
+
+  -- 9 alone, with no copy asked for
+  pub nine-says : judgeVerdict b k m room .code ≡ 9 → (q : ℕ) × CutIn b k m q × (judgeVerdict b k m room ≡ refusedAt 9 invalidLength q 0 0)
   unfolding judgeChecks
-  judge-saying j l = go (decLt j 9)
-    where
-      go : Dec (j < 9) → Says (judgeChecks b k m room) (judgeWords b k m) j
-      go (yes h) = framing-says b k m (tableChecks b k m room) (tableWords b k m) j h
-      go (no h) = let z : j ≡ suc (suc (suc (suc (suc (suc (suc (suc (suc (j - 9))))))))) = omega arith in rw z (last-says (j - 9) (omega arith))
+  nine-says e =
+      let o = judge-case b k m room 8 (omega arith) .0 e in
+      rw (own-says (judgeChecks b k m room) 8 (omega (arith, judge-count b k m room)) o) (framing-says b k m (tableChecks b k m room) (tableWords b k m) 8 (omega arith) o)
 
-  mask-saying : (j : ℕ) → j < 10 → Says (maskChecks b k m room) (maskWords b k m) j
-  unfolding maskChecks framingChecks headerChecks
-  mask-saying j l = go (decLt j 9)
-    where
-      go : Dec (j < 9) → Says (maskChecks b k m room) (maskWords b k m) j
-      go (yes h) = framing-says b k m (copyCheck b k m room ∷ []) (copyWords b k m) j h
-      go (no h) = let z : j ≡ 9 = omega arith in rw z (λ o. says-own _ (refused 13 0) (o .applies))
-
-  pub judge-says : (j : ℕ) → j < 12 → judgeVerdict b k m room .code ≡ getD judgeNumbers j 0 → getD (judgeWords b k m) j (λ v. ⊥) (judgeVerdict b k m room)
-  judge-says j l e =
-      let o = judge-case b k m room j l .0 e in
-      rw (own-says (judgeChecks b k m room) j (omega (arith, judge-count b k m room)) o) (judge-saying j l o)
-
-  pub mask-says : (j : ℕ) → j < 10 → maskVerdict b k m room .code ≡ getD maskNumbers j 0 → getD (maskWords b k m) j (λ v. ⊥) (maskVerdict b k m room)
-  mask-says j l e =
-      let o = mask-case b k m room j l .0 e in
-      rw (own-says (maskChecks b k m room) j (omega (arith, mask-count b k m room)) o) (mask-saying j l o)
+  pub call-says : (octets j : ℕ) → j < 13 → callVerdict b k m octets room .code ≡ getD callNumbers j 0 → getD (callWords b k m) j (λ v. ⊥) (callVerdict b k m octets room)
+  call-says octets j l e =
+      let o = call-case b k m octets room j l .0 e in
+      rw (own-says (callChecks b k m octets room) j (omega (arith, call-count b k m room octets)) o) (call-saying octets j l o)

@@ -21,7 +21,7 @@ use Rattle.tables.specs.IsTable.{IsTable}
 use Rattle.tables.proofs.Soundness.{is-table}
 use Rattle.verdicts.specs.Conditions.{CutIn, tableConditions}
 use Rattle.tables.proofs.Rowed.{own-of, own-begins}
-use Rattle.verdicts.proofs.Cases.{judge-words, judge-says}
+use Rattle.verdicts.proofs.Cases.{judge-words, nine-says}
 use Rattle.verdicts.specs.IsCut.{IsCut}
 use Rattle.verdicts.proofs.CutRebuilding.{is-cut}
 use Rattle.verdicts.proofs.Parts.{part-of}
@@ -60,7 +60,7 @@ module _ (b : Book) (fine : sound b ≡ true) (k : ℕ) (m : List ℕ) where
 
   module _ (room q : ℕ) where
     says : (v : Verdict) → judgeVerdict b k m room ≡ v → v .code ≡ 9 → (o : ℕ) × CutIn b k m o × (v ≡ refusedAt 9 invalidLength o 0 0)
-    says v w e = rw w at (judge-says b fine k m room 8 (omega arith) (ap (λ (u : Verdict). u .code) w ∙ e))
+    says v w e = rw w at (nine-says b fine k m room (ap (λ (u : Verdict). u .code) w ∙ e))
 
     pub nine-at : (judgeVerdict b k m room ≡ refusedAt 9 invalidLength q 0 0) ↔ (Passed b k m × ((t : List ℕ) × IsCut b k m t q))
     nine-at = (to, from)

@@ -15,4 +15,4 @@ pub mod Cutting
 pub mod CutPlace
 pub mod Refusing
 pub mod Covers
-pub mod Masking
+pub mod Calling

@@ -1,4 +1,4 @@
--- What it is that the judge accepts a message on a kind, and what it then leaves in the table that it was lent. Assumes nothing.
+-- What it is that a message is accepted on a kind, and what is then left in the table that was lent. Assumes nothing.
 use mathlib.Core.Path.{_≡_}
 use Prim.Native.Nat.{ℕ, _≤_}
 use mathlib.Core.List.{List}

@@ -59,11 +59,13 @@ module _ (b : Book) (k : ℕ) (m : List ℕ) where
   abbrev pub copyConditions : ℕ → List (Type 0)
   copyConditions room = (room < length m) ∷ []
 
+  -- with no copy asked for
   abbrev pub judgeConditions : ℕ → List (Type 0)
   judgeConditions room = framingConditions ++ tableConditions room
 
-  abbrev pub maskConditions : ℕ → List (Type 0)
-  maskConditions room = framingConditions ++ copyConditions room
+  -- of the one call: 13 stands between 9 and 10
+  abbrev pub callConditions : ℕ → ℕ → List (Type 0)
+  callConditions octets room = framingConditions ++ (copyConditions octets ++ tableConditions room)
 
   -- what each number comes with: the reply cause, and what is named
   abbrev pub framingWords : List (Verdict → Type 0)
@@ -91,8 +93,12 @@ module _ (b : Book) (k : ℕ) (m : List ℕ) where
   abbrev pub copyWords : List (Verdict → Type 0)
   copyWords = (λ v. v ≡ refused 13 0) ∷ []
 
-  abbrev pub judgeWords : List (Verdict → Type 0)
-  judgeWords = framingWords ++ tableWords
+  abbrev pub callWords : List (Verdict → Type 0)
+  callWords = framingWords ++ (copyWords ++ tableWords)
 
-  abbrev pub maskWords : List (Verdict → Type 0)
-  maskWords = framingWords ++ copyWords
+-- a copy is made on acceptance, and where 11 or 12 refuse
+abbrev pub copyingNumbers : List ℕ
+copyingNumbers = 0 ∷ 11 ∷ 12 ∷ []
+
+abbrev pub Copies : Verdict → Type 0
+Copies v = among (v .code) copyingNumbers ≡ true

@@ -13,7 +13,7 @@ use lib.ListN.{length, take, replicate, length-append, length-replicate}
 use lib.Seq.{take-all}
 use Rattle.rules.specs.Framing.{version}
 use Rattle.rules.specs.Listings.{book}
-use Rattle.rules.specs.Verdicts.{check, first, headerChecks, framingChecks, maskChecks, maskVerdict}
+use Rattle.rules.specs.Verdicts.{check, first, headerChecks, framingChecks}
 use Rattle.rules.specs.declared.Verdict.{Verdict}
 use Rattle.promises.specs.StandIns.{below}
 use Rattle.phrases.specs.Texts.{octetsOf, textIn}
@@ -39,7 +39,7 @@ abbrev room : List ℕ
 room = replicate 400 0
 
 unfoldable verdict : Verdict
-verdict = maskVerdict book 1 messageB 1
+verdict = first (framingChecks book 1 messageB)
 
 given-no : GivenView 1 0 0 messageB room
 unfolding below
@@ -50,7 +50,7 @@ unfolding below
 given-yes = record { lent = record { kind = refl; octets = refl; numbers = refl }; right-octet = refl; full-octet = refl }
 
 page-is : (right : ℕ) → pageFor 1 right 0 messageB ≡ refusedPage names (viewOf 1 right 0) verdict messageB
-unfolding pageFor pageOn pageOf page verdict maskChecks framingChecks headerChecks check first version book
+unfolding pageFor pageOn pageOf page verdict framingChecks headerChecks check first version book
 page-is right = refl
 
 abbrev said : List ℕ

@@ -1,4 +1,4 @@
--- What is promised of the exports: however the octets of a message are cut, the end answers what `wok_judge` answers on the joined message, and leaves in the
+-- What is promised of the exports: however the octets of a message are cut, the end answers what `wok_judge_copy` answers on the joined message with a copy buffer large enough, and leaves in the
 -- table's numbers what it leaves in a table of zeros. It holds since a state that is kept is read again as it was, so that a run from C is a run of the pieces form.
 -- Assumes nothing.
 use mathlib.Core.Path.{_≡_, refl, sym, ap, _∙_}

@@ -1,53 +1,18 @@
 // The exports to C: numbers go as octets, and the code is the result.
-ghost use Rattle.rules.specs.Answers.{JudgedOctets, MaskedOctets, CleanedOctets, BuiltOctets};
-ghost use Rattle.wokshimmer.specs.Exports.{Stored};
-use rules::Decision;
+ghost use Rattle.rules.specs.Answers.{CalledOctets, CleanedOctets, BuiltOctets};
 
-// The five numbers, and on acceptance the table from a scratch that holds its rows; neither waits for the other's room.
-fn store(d: Decision, rows: &[u16], table: &mut [u8], five: &mut [u8]) -> u16
-    ensures { λ r. ⌜ Stored d (now (rows .entry)) (now (table .entry)) (now (five .entry)) r (now (table .exit)) (now (five .exit)) ⌝ }
-{
-    let v = d.verdict;
-    let code = v.code;
-    octets::put_five(v, five);
-    if code == 0 {
-        octets::put_table(rows, d.rows, d.kept, d.typ, d.kind, table);
-    }
-    code
-}
-
-// The judge, with room for the rows of any message.
-fn judge_all(kind: u32, message: &[u8], table: &mut [u8], five: &mut [u8]) -> u16
-    ensures { λ r. ⌜ JudgedOctets kind (now (message .entry)) (now (table .entry)) (now (five .entry)) r (now (table .exit)) (now (five .exit)) ⌝ }
-{
-    let mut all = scratch::large();
-    let d = judging::decide(kind, message, &mut all, table.len() / 2);
-    store(d, &all, table, five)
-}
-
-// The verdict's code; its five numbers go to `five`, and on acceptance the table to `table`.
+// The verdict's code; its five numbers go to `five`, on acceptance the table to `table`, and the masked copy to `copy`, where 11 or 12 refuse, too.
 #[no_mangle]
-pub extern "C" fn wok_judge(kind: u32, message: &[u8], table: &mut [u8], five: &mut [u8]) -> u16
-    ensures { λ r. ⌜ JudgedOctets kind (now (message .entry)) (now (table .entry)) (now (five .entry)) r (now (table .exit)) (now (five .exit)) ⌝ }
+pub extern "C" fn wok_judge_copy(
+    kind: u32,
+    message: &[u8],
+    table: &mut [u8],
+    copy: &mut [u8],
+    five: &mut [u8],
+) -> u16
+    ensures { λ r. ⌜ CalledOctets kind (now (message .entry)) (now (table .entry)) (now (copy .entry)) (now (five .entry)) r (now (table .exit)) (now (copy .exit)) (now (five .exit)) ⌝ }
 {
-    if scratch::crowded(message) {
-        return judge_all(kind, message, table, five);
-    }
-    let room = table.len() / 2;
-    let mut few = scratch::small();
-    let d = judging::decide(kind, message, &mut few, room);
-    if 64 < d.rows {
-        return judge_all(kind, message, table, five);
-    }
-    store(d, &few, table, five)
-}
-
-// The verdict's code; its five numbers go to `five`, and if 1 to 9 and 13 pass the masked copy to `copy`.
-#[no_mangle]
-pub extern "C" fn wok_mask(kind: u32, message: &[u8], copy: &mut [u8], five: &mut [u8]) -> u16
-    ensures { λ r. ⌜ MaskedOctets kind (now (message .entry)) (now (copy .entry)) (now (five .entry)) r (now (copy .exit)) (now (five .exit)) ⌝ }
-{
-    let verdict = masking::mask(kind, message, copy);
+    let verdict = calling::stored::judge_copy(kind, message, table, copy);
     octets::put_five(verdict, five);
     verdict.code
 }

@@ -17,18 +17,15 @@ pub type Counts = Vec<usize>;
 pub struct Sent {
     pub case: Case,
     judge: [u8; FIVE_OCTETS],
-    mask: [u8; FIVE_OCTETS],
     clean: [u8; ANSWER_OCTETS],
 }
 
 impl Sent {
     fn new(case: Case) -> Self {
-        let (mut judge, mut mask) = ([0; FIVE_OCTETS], [0; FIVE_OCTETS]);
-        second::judge_octets(case.kind, &case.message, &mut [0; TABLE_OCTETS], &mut judge);
-        second::mask_octets(case.kind, &case.message, &mut [0; LONGEST_MESSAGE], &mut mask);
-        let mut clean = [0; ANSWER_OCTETS];
+        let (mut judge, mut clean) = ([0; FIVE_OCTETS], [0; ANSWER_OCTETS]);
+        second::judge_copy_octets(case.kind, &case.message, &mut [0; TABLE_OCTETS], &mut [0; LONGEST_MESSAGE], &mut judge);
         second::clean_octets(case.kind, &case.message, &mut [0; LONGEST_MESSAGE], &mut clean);
-        Self { case, judge, mask, clean }
+        Self { case, judge, clean }
     }
 
     pub fn port(&self) -> usize {
@@ -36,7 +33,7 @@ impl Sent {
     }
 
     pub fn answer(&self) -> Vec<u8> {
-        [&self.judge[..], &self.mask, &self.clean].concat()
+        [&self.judge[..], &self.clean].concat()
     }
 
     /// How long the cleaned copy is.
@@ -67,15 +64,20 @@ fn edges() -> [Vec<u8>; 4] {
     [Vec::new(), longer(LONGEST_MESSAGE), longer(LONGEST_MESSAGE + 1), longer(LONGEST)]
 }
 
-/// How many of the judge's, of the masker's and of the cleaner's verdicts have each code.
-pub fn counts(sent: &[Sent]) -> [Counts; 3] {
-    let mut counts = [vec![0; CODES], vec![0; CODES], vec![0; CODES]];
+/// How many of the judge's and of the cleaner's verdicts have each code.
+pub fn counts(sent: &[Sent]) -> [Counts; 2] {
+    let mut counts = [vec![0; CODES], vec![0; CODES]];
     for one in sent {
-        for (count, code) in counts.iter_mut().zip([one.judge[1], one.mask[1], one.clean[1]]) {
+        for (count, code) in counts.iter_mut().zip([one.judge[1], one.clean[1]]) {
             count[usize::from(code)] += 1;
         }
     }
     counts
+}
+
+/// How many masked copies there are: acceptance leaves one, and 11 and 12 do.
+pub fn copies(judge: &[usize]) -> usize {
+    judge[0] + judge[11] + judge[12]
 }
 
 /// Whether every code was given that judge and cleaner can give here.

@@ -36,7 +36,7 @@ fn main() -> ExitCode {
 
 fn run(program: &str, options: &[String]) -> Outcome<(u32, u32)> {
     let sent = cases::cases(DATAGRAMS);
-    let [judge, mask, clean] = cases::counts(&sent);
+    let [judge, clean] = cases::counts(&sent);
     let mut receiver = Receiver::start(program, options, Instant::now() + LONGEST_RUN)?;
     let began = Instant::now();
     // The last one alone, since the order between ports is open: its copies are those that the receiver keeps.
@@ -50,9 +50,10 @@ fn run(program: &str, options: &[String]) -> Outcome<(u32, u32)> {
         ("answers", wrong == 0),
         ("datagrams", printed(&total, "datagrams", 1)? == [sent.len()]),
         ("judge counts", printed(&total, "judge", judge.len())? == judge),
-        ("mask counts", printed(&total, "mask", mask.len())? == mask),
         ("clean counts", printed(&total, "clean", clean.len())? == clean),
         ("every code a datagram can get", cases::all_reached(&judge) && cases::all_reached(&clean)),
+        ("masked copies", printed(&total, "copies", 1)? == [cases::copies(&judge)]),
+        ("in parts as whole", printed(&total, "unlike", 1)? == [0]),
         ("the last masked copy", printed(&total, "copy", 1)? == [last.case.message.len()]),
         ("the last cleaned copy", printed(&total, "cleaned", 1)? == [last.cleaned()] && last.cleaned() == 13),
         ("rate", rate > LEAST_RATE),

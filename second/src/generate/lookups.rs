@@ -66,10 +66,9 @@ impl Generator {
         };
         let random = &mut self.random;
         let mut table = vec![0; DOCUMENT.used(DOCUMENT.sizes.most_rows)];
-        DOCUMENT.judge(kind, &message, &mut table);
-        table.truncate(usize::from(table[USED]) + random.below(3));
         let mut copy = vec![0; message.len()];
-        DOCUMENT.mask(kind, &message, &mut copy);
+        DOCUMENT.judge_copy(kind, &message, &mut table, &mut copy);
+        table.truncate(usize::from(table[USED]) + random.below(3));
         Lookup {
             kind,
             ask: ask(random, &table),

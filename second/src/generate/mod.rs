@@ -19,7 +19,7 @@ mod tables;
 pub use builds::{builds, Build, Rooms};
 pub use feeds::{Call, Feed, Left, What};
 pub use figures::figures;
-pub use lend::{Buffers, ANSWERS, UNLIMITED};
+pub use lend::{lends, Buffers, ANSWERS, UNLIMITED};
 pub use lookups::{hostile_tables, Ask, Lookup};
 pub use parts::{parts, Cut, CUTS};
 pub use random::Random;
@@ -90,9 +90,8 @@ impl Generator {
         loop {
             let case = self.overload();
             let is_void = case.table_need() != case.table_need_with_insides();
-            let mut table = vec![0; case.table_need()];
-            let verdict = DOCUMENT.judge(case.kind, &case.message, &mut table);
-            if is_void && verdict.accepted() {
+            let judged = DOCUMENT.judged_with_room(case.kind, &case.message);
+            if is_void && judged.verdict.accepted() {
                 return case;
             }
         }

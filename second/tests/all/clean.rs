@@ -1,11 +1,11 @@
 //! The cleaner: examples worked out by hand, what is promised of it over
 //! generated messages, and wrong cleaners, which the gate's messages show.
 
-use crate::support::{judged, message, octets, rows, verdict};
+use crate::support::{judged, mask, message, octets, rows, verdict};
 use second::generate::{figures, Case, Generator, Random};
 use second::rules::Standing;
 use second::walk::Row;
-use second::{clean, mask, Answer, Verdict, DOCUMENT};
+use second::{clean, Answer, Verdict, DOCUMENT};
 
 const CASES: usize = 24_000;
 const UNTOUCHED: u8 = 0xEE;

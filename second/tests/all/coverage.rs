@@ -4,11 +4,11 @@
 use std::collections::{BTreeMap, BTreeSet};
 
 use crate::support::judged;
-use second::generate::{figures, Ask, Case, Generator, Lookup, ANSWERS};
+use second::generate::{figures, Ask, Buffers, Case, Generator, Lookup, ANSWERS};
 use second::listings::Line;
 use second::rules::Standing;
 use second::walk::Row;
-use second::{clean, judge, mask, DOCUMENT};
+use second::{clean, judge_copy, DOCUMENT};
 
 const AT_LEAST: usize = 10;
 
@@ -135,6 +135,11 @@ fn count_lent(counts: &mut Counts, what: &str, code: u16, lent: usize, need: usi
     counts.count(&format!("{what} {length}: code {code}"));
 }
 
+fn code_with(case: &Case, lent: Buffers) -> u16 {
+    let (mut table, mut copy) = (vec![0; lent.table / 2], vec![0; lent.copy]);
+    judge_copy(case.kind, &case.message, &mut table, &mut copy).code
+}
+
 #[test]
 fn tables_and_copies_of_every_length() {
     let mut counts = Counts::default();
@@ -168,14 +173,11 @@ fn tables_and_copies_of_every_length() {
     }
     for (seed, case) in figures().iter().enumerate() {
         for lent in case.buffers(seed as u64) {
-            let mut table = vec![0; lent.table / 2];
-            let code = judge(case.kind, &case.message, &mut table).code;
-            count_lent(&mut counts, "table", code, table.len(), case.table_need());
-            let numbers = table.len();
+            let code = code_with(case, lent);
+            let numbers = lent.table / 2;
+            count_lent(&mut counts, "table", code, numbers, case.table_need());
             counts.count(&format!("table of {numbers} numbers: code {code}"));
-            let mut copy = vec![0; lent.copy];
-            let code = mask(case.kind, &case.message, &mut copy).code;
-            count_lent(&mut counts, "copy", code, copy.len(), case.message.len());
+            count_lent(&mut counts, "copy", code, lent.copy, case.message.len());
             let mut copy = vec![0; lent.clean];
             let code = clean(case.kind, &case.message, &mut copy).verdict.code;
             count_lent(&mut counts, "clean", code, copy.len(), case.clean_need());

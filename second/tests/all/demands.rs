@@ -4,7 +4,7 @@ use crate::support::{judged, rows, UNTOUCHED};
 use second::generate::{Case, Generator, Random};
 use second::listings::Line;
 use second::rules::{Check, Standing};
-use second::{judge, mask, Verdict, DOCUMENT};
+use second::{judge_copy, Verdict, DOCUMENT};
 
 const CASES: usize = 24_000;
 
@@ -52,7 +52,7 @@ fn rows_lie_within_their_parents_and_siblings_never_overlap() {
 }
 
 /// The first mandatory pair without a kept row, looked for level by level.
-fn missing_by_hand(lines: &[Line], case: &Case) -> Option<Verdict> {
+pub fn missing_by_hand(lines: &[Line], case: &Case) -> Option<Verdict> {
     let rows = DOCUMENT
         .rows(case.kind, &case.message)
         .expect("a whole message");
@@ -107,14 +107,13 @@ fn other_covered(random: &mut Random, message: &[u8], covered: &[bool]) -> Vec<u
         .collect()
 }
 
-fn judged_in(case: &Case, mut table: Vec<u16>) -> (Verdict, Vec<u16>) {
-    let verdict = judge(case.kind, &case.message, &mut table);
-    (verdict, table)
-}
+/// A verdict, and what both lent buffers hold after it.
+type Left = (Verdict, Vec<u16>, Vec<u8>);
 
-fn masked_in(case: &Case, mut copy: Vec<u8>) -> (Verdict, Vec<u8>) {
-    let verdict = mask(case.kind, &case.message, &mut copy);
-    (verdict, copy)
+fn left_by(case: &Case, lent: &(Vec<u16>, Vec<u8>)) -> Left {
+    let (mut table, mut copy) = lent.clone();
+    let verdict = judge_copy(case.kind, &case.message, &mut table, &mut copy);
+    (verdict, table, copy)
 }
 
 fn assert_copy_is_right(case: &Case, covered: &[bool], copy: &[u8]) {
@@ -130,6 +129,7 @@ fn covered_octets_change_nothing() {
     let mut generator = Generator::new(13);
     let mut random = Random::new(14);
     let mut pairs = 0;
+    let mut copies = [0; 13];
     for turn in 0..CASES {
         let case = match turn % 4 {
             0 => generator.overload(),
@@ -141,60 +141,58 @@ fn covered_octets_change_nothing() {
             message: other_covered(&mut random, &case.message, &covered),
         };
         pairs += usize::from(other != case);
-        let table = vec![UNTOUCHED; generator.table_length(&case)];
-        let judged = judged_in(&case, table.clone());
-        assert_eq!(judged_in(&other, table.clone()), judged);
-
-        let lent = vec![0xEE; generator.copy_length(&case)];
-        let (verdict, copy) = masked_in(&case, lent.clone());
-        assert_eq!(masked_in(&other, lent), (verdict, copy.clone()));
-        if verdict.accepted() {
-            assert_copy_is_right(&case, &covered, &copy);
+        let lent = generator.lent(&case);
+        let lent = (vec![UNTOUCHED; lent.0], vec![0xEE; lent.1]);
+        let left = left_by(&case, &lent);
+        assert_eq!(left_by(&other, &lent), left);
+        let (verdict, table, copy) = &left;
+        if matches!(verdict.code, 0 | 11 | 12) {
+            assert_copy_is_right(&case, &covered, copy);
             let copied = Case {
                 kind: case.kind,
                 message: copy[..case.message.len()].to_vec(),
             };
-            assert_eq!(judged_in(&copied, table), judged);
+            assert_eq!(left_by(&copied, &lent), left);
+            copies[usize::from(verdict.code)] += 1;
         } else {
-            assert!(copy.iter().all(|&octet| octet == 0xEE));
+            assert_eq!(*copy, lent.1);
         }
+        assert!(verdict.accepted() || *table == lent.0);
     }
     assert!(pairs > CASES / 4);
+    let [accepted, .., short, missing] = copies;
+    assert!(accepted > CASES / 8, "{copies:?}");
+    assert!(short > CASES / 200 && missing > CASES / 200, "{copies:?}");
 }
 
+/// The call with every length of a table and of a copy, held to the words.
 #[test]
-fn lent_tables_of_all_lengths() {
-    for case in Generator::new(15).take(CASES / 6) {
+fn lent_buffers_of_all_lengths() {
+    for case in Generator::new(15).take(CASES / 12) {
         let need = case.table_need();
         let (largest, used) = judged(case.kind, &case.message);
-        for length in case.table_lengths() {
-            let (verdict, table) = judged_in(&case, vec![UNTOUCHED; length]);
-            let passes_9 = DOCUMENT.rows(case.kind, &case.message).is_ok();
-            let expected = if passes_9 && length < need {
-                DOCUMENT.refusal(Check::TableRoom)
-            } else {
-                largest
-            };
-            assert_eq!(verdict, expected);
-            let written = if verdict.accepted() { need } else { 0 };
-            assert_eq!(table[..written], used[..written]);
-            assert!(table[written..].iter().all(|&number| number == UNTOUCHED));
-        }
-    }
-}
-
-#[test]
-fn lent_copies_of_all_lengths() {
-    for case in Generator::new(16).take(CASES / 6) {
-        let framing = DOCUMENT.rows(case.kind, &case.message).err();
-        for length in case.copy_lengths() {
-            let (verdict, _) = masked_in(&case, vec![0; length]);
-            let expected = match framing {
-                Some(refusal) => refusal,
-                None if length < case.message.len() => DOCUMENT.refusal(Check::CopyRoom),
-                None => Verdict::ACCEPTED,
-            };
-            assert_eq!(verdict, expected);
+        let covered = DOCUMENT.covered(case.kind, &case.message);
+        let passes_9 = DOCUMENT.rows(case.kind, &case.message).is_ok();
+        for numbers in case.table_lengths() {
+            for octets in case.copy_lengths() {
+                let lent = (vec![UNTOUCHED; numbers], vec![0xEE; octets]);
+                let (verdict, table, copy) = left_by(&case, &lent);
+                let expected = if passes_9 && octets < case.message.len() {
+                    DOCUMENT.refusal(Check::CopyRoom)
+                } else if passes_9 && numbers < need {
+                    DOCUMENT.refusal(Check::TableRoom)
+                } else {
+                    largest
+                };
+                assert_eq!(verdict, expected);
+                let written = if verdict.accepted() { need } else { 0 };
+                assert_eq!(table[..written], used[..written]);
+                assert!(table[written..].iter().all(|&number| number == UNTOUCHED));
+                match verdict.code {
+                    0 | 11 | 12 => assert_copy_is_right(&case, &covered, &copy),
+                    _ => assert_eq!(copy, lent.1),
+                }
+            }
         }
     }
 }

@@ -1,7 +1,7 @@
 //! The examples A to M, with every variant.
 
-use crate::support::{five, octets, table};
-use second::{mask, Verdict, DOCUMENT};
+use crate::support::{five, mask, octets, table};
+use second::{Verdict, DOCUMENT};
 
 const D: &str = "40 01 00 09 00 00 01 00 03 00 01 00 07";
 const G: &str = "48 42 00 11 00 00 00 01 00 00 02 00 5D 00 05 00 49 00 01 00 05";

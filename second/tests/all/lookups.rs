@@ -3,9 +3,9 @@
 
 use std::collections::BTreeMap;
 
-use crate::support::{message, octets, table};
+use crate::support::{mask, message, octets, table};
 use second::generate::{hostile_tables, Ask, Generator, Lookup};
-use second::{desk, desk_found, mask, plain, plain_found, DOCUMENT};
+use second::{desk, desk_found, plain, plain_found, DOCUMENT};
 
 const G: &str = "48 42 00 11 00 00 00 01 00 00 02 00 5D 00 05 00 49 00 01 00 05";
 

@@ -7,6 +7,7 @@ mod coverage;
 mod demands;
 mod examples;
 mod generator;
+mod judge_copy;
 mod listings;
 mod lookups;
 mod octets;

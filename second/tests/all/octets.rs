@@ -2,7 +2,7 @@
 
 use crate::support::octets;
 use second::generate::{Generator, ANSWERS};
-use second::{clean, clean_octets, judge, judge_octets, mask, mask_octets, Verdict};
+use second::{clean, clean_octets, judge_copy, judge_copy_octets, Verdict};
 
 fn as_octets(numbers: &[u16]) -> Vec<u8> {
     numbers.iter().flat_map(|n| n.to_be_bytes()).collect()
@@ -20,38 +20,50 @@ fn five_after(verdict: Verdict, length: usize) -> Vec<u8> {
 #[test]
 fn example_d_in_octets() {
     let message = octets("40 01 00 09 00 00 01 00 03 00 01 00 07");
-    let mut table = [0xEE; 27];
-    let mut five = [0xEE; 12];
-    assert_eq!(judge_octets(1, &message, &mut table, &mut five), 0);
+    let judge = |table: &mut [u8], copy: &mut [u8], five: &mut [u8]| {
+        judge_copy_octets(1, &message, table, copy, five)
+    };
+    let (mut table, mut copy, mut five) = ([0xEE; 27], [0xEE; 14], [0xEE; 12]);
+    assert_eq!(judge(&mut table, &mut copy, &mut five), 0);
     let expected =
         octets("00 01 00 01 00 06 00 0C 00 01 00 01 00 00 00 03 00 00 00 0C 00 01 00 00 EE EE EE");
     assert_eq!(table[..], expected);
+    assert_eq!(copy[..13], message);
+    assert_eq!(copy[13], 0xEE);
     assert_eq!(five[..], octets("00 00 00 00 00 00 00 00 00 00 EE EE"));
     // 23 octets are 11 numbers.
-    let mut table = [0xEE; 23];
-    assert_eq!(judge_octets(1, &message, &mut table, &mut five), 10);
-    assert_eq!(table, [0xEE; 23]);
+    let (mut table, mut copy) = ([0xEE; 23], [0xEE; 13]);
+    assert_eq!(judge(&mut table, &mut copy, &mut five), 10);
+    assert_eq!((table, copy), ([0xEE; 23], [0xEE; 13]));
     assert_eq!(five[..], octets("00 0A 00 00 00 00 00 00 00 00 EE EE"));
+    // The copy is tested before the table.
+    let (mut table, mut copy) = ([0xEE; 23], [0xEE; 12]);
+    assert_eq!(judge(&mut table, &mut copy, &mut five), 13);
+    assert_eq!((table, copy), ([0xEE; 23], [0xEE; 12]));
+    assert_eq!(five[..], octets("00 0D 00 00 00 00 00 00 00 00 EE EE"));
 }
 
 #[test]
 fn example_f_in_octets() {
     let message = octets("40 01 00 0D 00 00 01 00 03 00 00 00 03 00 01 00 07");
-    let mut five = [0xEE; 10];
-    assert_eq!(judge_octets(1, &message, &mut [0; 64], &mut five), 11);
+    let (mut table, mut copy, mut five) = ([0xEE; 36], [0xEE; 18], [0xEE; 10]);
+    let code = judge_copy_octets(1, &message, &mut table, &mut copy, &mut five);
+    assert_eq!((code, table), (11, [0xEE; 36]));
     assert_eq!(five[..], octets("00 0B 00 43 00 08 00 03 00 00"));
-    assert_eq!(judge_octets(257, &message, &mut [], &mut []), 1);
+    // The good one after the short one is a repeat, and covered.
+    assert_eq!(copy[..16], message[..16]);
+    assert_eq!(copy[16..], [0, 0xEE]);
+    let code = judge_copy_octets(257, &message, &mut [], &mut [], &mut []);
+    assert_eq!(code, 1);
 }
 
 #[test]
 fn a_short_five_buffer_stops_no_other_write() {
     let message = octets("40 01 00 09 00 00 01 00 03 00 01 00 07");
-    let mut table = [0xEE; 24];
-    let mut five = [0xEE; 9];
-    assert_eq!(judge_octets(1, &message, &mut table, &mut five), 0);
+    let (mut table, mut copy, mut five) = ([0xEE; 24], [0xEE; 13], [0xEE; 9]);
+    let code = judge_copy_octets(1, &message, &mut table, &mut copy, &mut five);
+    assert_eq!(code, 0);
     assert_eq!(table[..2], [0, 1]);
-    let mut copy = [0xEE; 13];
-    assert_eq!(mask_octets(1, &message, &mut copy, &mut five), 0);
     assert_eq!(copy[..], message);
     assert_eq!(five, [0xEE; 9]);
 }
@@ -99,36 +111,23 @@ fn clean_octets_agrees_with_clean() {
 }
 
 #[test]
-fn judge_octets_agrees_with_judge() {
+fn judge_copy_octets_agrees_with_judge_copy() {
     for case in Generator::new(31).take(10_000) {
-        for numbers in case.table_lengths() {
-            let mut table = vec![0xEEEE; numbers];
-            let verdict = judge(case.kind, &case.message, &mut table);
+        let mut pairs = case.around_both();
+        let copies = case.copy_lengths();
+        let tables = case.table_lengths().into_iter().enumerate();
+        pairs.extend(tables.map(|(at, numbers)| (numbers, copies[at % copies.len()])));
+        for (numbers, octets) in pairs {
+            let (mut table, mut copy) = (vec![0xEEEE; numbers], vec![0xEE; octets]);
+            let verdict = judge_copy(case.kind, &case.message, &mut table, &mut copy);
             for (odd, length) in [(0, 0), (1, 9), (0, 10), (1, 11)] {
-                let mut lent = vec![0xEE; 2 * numbers + odd];
+                let (mut lent, mut copied) = (vec![0xEE; 2 * numbers + odd], vec![0xEE; octets]);
                 let mut five = vec![0xEE; length];
-                let code = judge_octets(case.kind, &case.message, &mut lent, &mut five);
-                assert_eq!(code, verdict.code);
+                let code =
+                    judge_copy_octets(case.kind, &case.message, &mut lent, &mut copied, &mut five);
+                assert_eq!((code, &copied), (verdict.code, &copy));
                 assert_eq!(lent[..2 * numbers], as_octets(&table));
                 assert_eq!(lent[2 * numbers..], [0xEE][..odd]);
-                assert_eq!(five, five_after(verdict, length));
-            }
-        }
-    }
-}
-
-#[test]
-fn mask_octets_agrees_with_mask() {
-    for case in Generator::new(32).take(10_000) {
-        for length in case.copy_lengths() {
-            let mut copy = vec![0xEE; length];
-            let verdict = mask(case.kind, &case.message, &mut copy);
-            for length in [0, 9, 10, 11] {
-                let mut lent = vec![0xEE; copy.len()];
-                let mut five = vec![0xEE; length];
-                let code = mask_octets(case.kind, &case.message, &mut lent, &mut five);
-                assert_eq!(code, verdict.code);
-                assert_eq!(lent, copy);
                 assert_eq!(five, five_after(verdict, length));
             }
         }

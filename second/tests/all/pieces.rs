@@ -1,12 +1,12 @@
 //! The pieces form against the judge, which sees the message joined: examples,
 //! generated messages cut in every way, and wrong forms, which the feeds show.
 
-use crate::support::{octets, table, verdict};
+use crate::support::{judge, judge_by, octets, table, verdict};
 use second::generate::{
     figures, parts, Call, Case, Cut, Feed, Generator, Left, Random, What, CUTS, UNLIMITED,
 };
 use second::rules::{Check, Least, Standing};
-use second::{judge, judge_octets, start, start_octets, State, Verdict, DOCUMENT};
+use second::{judge_copy_octets, start, start_octets, State, Verdict, DOCUMENT};
 
 const CASES: usize = 12_000;
 const D: &str = "40 01 00 09 00 00 01 00 03 00 01 00 07";
@@ -395,7 +395,8 @@ impl Stored {
         let message = self.seen();
         let mut fresh = vec![0; table.len()];
         let mut five = [0; 10];
-        judge_octets(self.kind, &message, &mut fresh, &mut five);
+        let mut copy = vec![0; message.len()];
+        judge_copy_octets(self.kind, &message, &mut fresh, &mut copy, &mut five);
         let (numbers, _) = five.as_chunks();
         let mut numbers = numbers.iter().map(|&number| u16::from_be_bytes(number));
         let mut found = verdict([(); 5].map(|()| numbers.next().expect("five numbers")));
@@ -423,7 +424,7 @@ impl Stored {
     fn spoil_void(&self, message: &[u8], found: &mut Verdict, table: &mut [u8]) {
         let room = table.len() / 2;
         let mut listed = vec![0; UNLIMITED.used(1022)];
-        let unlimited = UNLIMITED.judge(self.kind, message, &mut listed);
+        let unlimited = judge_by(&UNLIMITED, self.kind, message, &mut listed);
         let rows = DOCUMENT.rows(self.kind, message).unwrap_or_default();
         let all = UNLIMITED.rows(self.kind, message).unwrap_or_default();
         if rows.len() == all.len() {

@@ -7,7 +7,7 @@ use std::collections::BTreeMap;
 use std::thread;
 
 use crate::changes::{changes, Bears, Change, Shown};
-use second::generate::{builds, figures, Buffers, Build, Case, Generator, Lookup, Rooms};
+use second::generate::{builds, figures, lends, Buffers, Build, Case, Generator, Lookup, Rooms};
 use second::{Rules, DOCUMENT};
 
 const AT_LEAST: usize = 10;
@@ -17,6 +17,8 @@ const PLENTY: usize = 50;
 /// What the gate compares, with the answers by the document's figures.
 struct Gate {
     cases: Vec<Compared>,
+    /// The cases for the order of the refusals, once with each of their buffers.
+    lends: Vec<Lent>,
     /// The numbers of the cases with a row of a type, by type.
     with_type: Vec<Vec<usize>>,
     inputs: Vec<(Vec<u8>, String)>,
@@ -26,10 +28,16 @@ struct Gate {
 
 struct Compared {
     case: Case,
-    buffers: [Buffers; 2],
-    answers: [Vec<u8>; 2],
+    buffers: [Buffers; 3],
+    answers: [Vec<u8>; 3],
     /// The standings that rows of a type have, a bit each, by type.
     standings: [u8; 256],
+}
+
+struct Lent {
+    case: Case,
+    lent: Buffers,
+    answer: Vec<u8>,
 }
 
 struct Built {
@@ -48,19 +56,23 @@ fn left_by(lengths: [usize; 2], call: impl FnOnce(&mut [u8], &mut [u8]) -> u16) 
     octets
 }
 
-/// All that judge, masker and cleaner answer and write.
+/// All that judge and copy in one call answers and writes.
+fn judged(rules: &Rules, case: &Case, lent: &Buffers) -> Vec<u8> {
+    let Case { kind, message } = case;
+    let buffers = lent.table + lent.copy;
+    left_by([buffers, lent.five], |buffers, five| {
+        let (table, copy) = buffers.split_at_mut(lent.table);
+        rules.judge_copy_octets(*kind, message, table, copy, five)
+    })
+}
+
+/// The same, and all that the cleaner does.
 fn answer(rules: &Rules, case: &Case, lent: &Buffers) -> Vec<u8> {
     let Case { kind, message } = case;
-    let judged = left_by([lent.table, lent.five], |table, five| {
-        rules.judge_octets(*kind, message, table, five)
-    });
-    let masked = left_by([lent.copy, lent.five], |copy, five| {
-        rules.mask_octets(*kind, message, copy, five)
-    });
     let cleaned = left_by([lent.clean, lent.answer], |clean, answer| {
         rules.clean_octets(*kind, message, clean, answer)
     });
-    [judged, masked, cleaned].concat()
+    [judged(rules, case, lent), cleaned].concat()
 }
 
 /// All that the builder answers and writes.
@@ -114,15 +126,25 @@ impl Compared {
     }
 
     /// Is some answer another? What listings and types say shows with buffers
-    /// that are large enough; only other figures may need the second trial.
+    /// that are large enough; only other figures may need the other trials.
     fn differs(&self, change: &Change) -> bool {
         let trials = if change.bears == Bears::default() {
-            2
+            3
         } else {
             1
         };
         let mut trials = self.buffers.iter().zip(&self.answers).take(trials);
         trials.any(|(lent, expected)| answer(&change.rules, &self.case, lent) != *expected)
+    }
+}
+
+impl Lent {
+    fn new(case: &Case, lent: Buffers) -> Self {
+        Self {
+            case: case.clone(),
+            lent,
+            answer: judged(&DOCUMENT, case, &lent),
+        }
     }
 }
 
@@ -140,9 +162,14 @@ impl Gate {
             let has = |number: &usize| cases[*number].standings[typ] != 0;
             (0..cases.len()).filter(has).collect()
         });
+        let each = |(case, lent): (Case, Vec<Buffers>)| {
+            let lent = lent.into_iter();
+            lent.map(|lent| Lent::new(&case, lent)).collect::<Vec<_>>()
+        };
         Self {
             with_type: with_type.collect(),
             cases,
+            lends: lends().into_iter().flat_map(each).collect(),
             inputs: inputs
                 .map(|input| (input.clone(), DOCUMENT.program(&input)))
                 .collect(),
@@ -156,6 +183,7 @@ impl Gate {
     fn count(&self, change: &Change) -> usize {
         let counts = change.shown.iter().map(|shown| match shown {
             Shown::Octets => self.octets(change),
+            Shown::Lends => self.lends(&change.rules),
             Shown::Program => self.program(&change.rules),
             Shown::Lookups => self.lookups(&change.rules),
             Shown::Builds => self.builds(&change.rules),
@@ -174,6 +202,12 @@ impl Gate {
             }
             None => self.cases.iter().filter(differs).take(PLENTY).count(),
         }
+    }
+
+    /// The call alone, over the cases for the order of its refusals.
+    fn lends(&self, rules: &Rules) -> usize {
+        let differs = |one: &&Lent| judged(rules, &one.case, &one.lent) != one.answer;
+        self.lends.iter().filter(differs).take(PLENTY).count()
     }
 
     fn program(&self, rules: &Rules) -> usize {
@@ -268,7 +302,9 @@ fn every_figure_is_pinned() {
     let gate = Gate::new();
     let (messages, inputs) = (gate.cases.len(), gate.inputs.len());
     let (lookups, builds) = (gate.lookups.len(), gate.builds.len());
-    println!("{messages} messages, {inputs} inputs, {lookups} lookups, {builds} builds");
+    let lends = gate.lends.len();
+    println!("{messages} messages, {lends} lends, {inputs} inputs");
+    println!("{lookups} lookups, {builds} builds");
     let changes = changes();
     let mut tally = Tally::default();
     for (change, count) in changes.iter().zip(counts(&gate, &changes)) {

@@ -4,9 +4,9 @@ use std::fs;
 use std::io::Write;
 use std::process::{Command, Output, Stdio};
 
-use crate::support::{message, octets};
+use crate::support::{mask, message, octets};
 use second::generate::{Ask, Generator, Lookup};
-use second::{lines, mask, DOCUMENT};
+use second::{lines, DOCUMENT};
 
 const G: &str = "48 42 00 11 00 00 00 01 00 00 02 00 5D 00 05 00 49 00 01 00 05";
 const G_ACCEPTED: &str = "accept 2 2\n0 93 0 16 5 0\n1 73 0 20 1 0\n";
@@ -39,7 +39,7 @@ fn refusals_are_one_line() {
 }
 
 #[test]
-fn the_first_4097_octets_count() {
+fn the_first_4097_octets_count_and_no_copy_is_short() {
     let mut longest = message(1, "03 00 01 00 07 FF 0F EF 00");
     longest.resize(4096, 0x55);
     longest[2..4].copy_from_slice(&[0x0F, 0xFC]);
@@ -104,6 +104,13 @@ fn mask_command() {
     let output = second(&["mask"], &input(1, &message));
     assert!(output.status.success());
     assert_eq!(output.stdout, copy);
+
+    // 12 leaves a copy too.
+    let missing = crate::support::message(1, "C8 00 02 00 11 22");
+    let output = second(&["mask"], &input(1, &missing));
+    assert!(output.status.success());
+    assert_eq!(output.stdout[..12], missing[..12]);
+    assert_eq!(output.stdout[12..], [0, 0]);
 
     let output = second(&["mask"], &input(4, &message));
     assert_eq!(output.status.code(), Some(1));

@@ -1,7 +1,7 @@
 //! Rules beyond the examples, each worked out by hand.
 
-use crate::support::{five, message, octets, rows, table, verdict};
-use second::{judge, mask, Verdict, DOCUMENT};
+use crate::support::{five, judge, mask, message, octets, rows, table, verdict};
+use second::{Verdict, DOCUMENT};
 
 const CONTEXT: &str = "5D 00 05 00 49 00 01 00 05";
 const OVERLOAD: &str = "B7 00 04 00 00 00 00 01 B6 00 01 00 0A 9C 00 01 00 05";
@@ -439,23 +439,23 @@ fn nothing_is_covered_in_a_message_refused_by_1_to_9() {
 }
 
 #[test]
-fn the_masker_accepts_where_the_judge_says_11_or_12() {
+fn a_copy_is_made_with_11_and_with_12() {
     let missing = message(1, "98 00 00 00 C8 00 01 00 11");
-    assert_eq!(five(1, &missing), [12, 70, 0, 3, 0]);
     let short = message(32, "57 00 01 00 8A 01 00 01 00 21");
-    assert_eq!(five(1, &short), [11, 67, 12, 87, 0]);
     let mut copy = vec![0xEE; short.len() + 2];
-    assert_eq!(mask(1, &missing, &mut copy), Verdict::ACCEPTED);
+    let answered = mask(1, &missing, &mut copy);
+    assert_eq!(answered, verdict([12, 70, 0, 3, 0]));
     assert_eq!(copy[..16], missing[..16]);
     assert_eq!(copy[16], 0);
-    assert_eq!(mask(1, &short, &mut copy), Verdict::ACCEPTED);
+    let answered = mask(1, &short, &mut copy);
+    assert_eq!(answered, verdict([11, 67, 12, 87, 0]));
     // The mandatory short 87/0 counts as standing 3: it is not covered.
     assert_eq!(copy[..21], short[..21]);
     assert_eq!(copy[21..], [0, 0xEE, 0xEE]);
 }
 
 #[test]
-fn the_masker_checks_the_copy_last() {
+fn a_small_copy_comes_after_9() {
     let good = message(1, "03 00 01 00 07");
     let broken = message(1, "03 00 02 00 07");
     let mut copy = [0xEE; 12];

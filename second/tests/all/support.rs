@@ -1,9 +1,26 @@
 //! What several tests share.
 
-use second::{judge, lines, Verdict, DOCUMENT};
+use second::{lines, Rules, Verdict, DOCUMENT};
 
 /// A number that no table of a short message holds.
 pub const UNTOUCHED: u16 = 0xAAAA;
+
+/// The judge: the one call with a copy that is large enough.
+pub fn judge(kind: u32, message: &[u8], table: &mut [u16]) -> Verdict {
+    judge_by(&DOCUMENT, kind, message, table)
+}
+
+/// The same by other rules.
+pub fn judge_by(rules: &Rules, kind: u32, message: &[u8], table: &mut [u16]) -> Verdict {
+    let mut copy = vec![0; message.len()];
+    rules.judge_copy(kind, message, table, &mut copy)
+}
+
+/// The masked copy: the one call with a table that is large enough.
+pub fn mask(kind: u32, message: &[u8], copy: &mut [u8]) -> Verdict {
+    let mut table = vec![0; DOCUMENT.used(DOCUMENT.sizes.most_rows)];
+    DOCUMENT.judge_copy(kind, message, &mut table, copy)
+}
 
 pub fn octets(hex: &str) -> Vec<u8> {
     lines::octets(hex).expect("hex in a test")

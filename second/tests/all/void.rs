@@ -3,11 +3,9 @@
 
 use std::collections::BTreeMap;
 
-use crate::support::{five, judged, message, octets, rows, table, verdict};
+use crate::support::{five, judge, judge_by, judged, mask, message, octets, rows, table, verdict};
 use second::generate::{figures, Case, Generator, UNLIMITED};
-use second::{
-    build, clean, desk, judge, mask, plain, plain_found, start, Answer, Head, Verdict, DOCUMENT,
-};
+use second::{build, clean, desk, plain, plain_found, start, Answer, Head, Verdict, DOCUMENT};
 
 /// 2/0 at 12, and 93/0 at 18 with its 73/0 and 2/0; what follows begins at 33.
 const FAILED: &str = "02 00 02 00 40 00 5D 00 0B 00 49 00 01 00 05 02 00 02 00 40 00";
@@ -807,7 +805,7 @@ fn figures_meet_every_way_to_be_void() {
         let (found, table) = judged(case.kind, &case.message);
         if found.accepted() && rows(&table).iter().any(|row| row[5] == 4) {
             let mut numbers = vec![0; UNLIMITED.used(1022)];
-            let other = UNLIMITED.judge(case.kind, &case.message, &mut numbers);
+            let other = judge_by(&UNLIMITED, case.kind, &case.message, &mut numbers);
             *met.entry((case.kind, other.code)).or_insert(0) += 1;
         }
     }

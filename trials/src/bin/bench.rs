@@ -1,12 +1,12 @@
-//! Judge and mask, clean alone, and build, through the C interface against the second program: the ratio is the second program's time divided
-//! by ours, so that higher is better. Turns are interleaved, and the best of each side counts. Buffers are made once and not cleared between
-//! messages. The pieces form is measured against the library's own judge, with the same table, which its start makes zero: the judge's time divided
-//! by its own. `bench LINE SIDE TURNS` does one line (0 to 7) of one side (ours, or the other) so many times and measures nothing:
-//! trials/instructions counts.
+//! Judge and copy in one call, clean alone, and build, through the C interface against the second program: the ratio is the second program's time
+//! divided by ours, so that higher is better. Turns are interleaved, and the best of each side counts. Buffers are made once and not cleared between
+//! messages. The pieces form is measured against the library's own call on the whole message, with the same table, which its start makes zero: that
+//! call's time, which has the copy in it, divided by its own. `bench LINE SIDE TURNS` does one line (0 to 8) of one side (ours, or the other) so many
+//! times and measures nothing: trials/instructions counts.
 use second::generate::{Build, Generator};
 use std::hint::black_box;
 use std::time::Instant;
-use trials::{BuildCall, Call};
+use trials::{BuildCall, CleanCall, JudgeCopyCall};
 
 const TURNS: usize = 60;
 const LARGEST: usize = 4_096;
@@ -31,22 +31,23 @@ struct Line {
     sides: [Turn; 2],
 }
 
-fn judge_and_mask(name: &'static str, messages: &Messages) -> Line {
-    let side = |judge: Call, mask: Call| -> Turn {
-        let messages = messages.clone();
-        Box::new(move |b| {
-            for (kind, message) in &messages {
-                black_box(judge(*kind, black_box(message), &mut b.table, &mut b.five));
-                black_box(mask(*kind, black_box(message), &mut b.copy, &mut b.five));
-            }
-        })
-    };
-    let sides = [side(trials::judge, trials::mask), side(second::judge_octets, second::mask_octets)];
+/// Judge and copy of each message, by either.
+fn judge_copies(messages: &Messages, call: JudgeCopyCall) -> Turn {
+    let messages = messages.clone();
+    Box::new(move |b| {
+        for (kind, message) in &messages {
+            black_box(call(*kind, black_box(message), &mut b.table, &mut b.copy, &mut b.five));
+        }
+    })
+}
+
+fn judge_and_copy(name: &'static str, messages: &Messages) -> Line {
+    let sides = [judge_copies(messages, trials::judge_copy), judge_copies(messages, second::judge_copy_octets)];
     Line { name, against: "second", count: messages.len(), sides }
 }
 
 fn clean_alone(name: &'static str, messages: &Messages) -> Line {
-    let side = |clean: Call| -> Turn {
+    let side = |clean: CleanCall| -> Turn {
         let messages = messages.clone();
         Box::new(move |b| {
             for (kind, message) in &messages {
@@ -72,7 +73,7 @@ fn builds(name: &'static str, builds: Vec<Build>) -> Line {
 
 /// The messages in parts of so many octets, each from its start to its end.
 fn in_parts(name: &'static str, messages: &Messages, octets: usize) -> Line {
-    let (own, judged) = (messages.clone(), messages.clone());
+    let own = messages.clone();
     let pieces: Turn = Box::new(move |b| {
         for (kind, message) in &own {
             black_box(trials::start(*kind, &mut b.state, &mut b.table));
@@ -82,36 +83,43 @@ fn in_parts(name: &'static str, messages: &Messages, octets: usize) -> Line {
             black_box(trials::end(&mut b.state, &mut b.table, &mut b.five));
         }
     });
-    let judge: Turn = Box::new(move |b| {
-        for (kind, message) in &judged {
-            black_box(trials::judge(*kind, black_box(message), &mut b.table, &mut b.five));
-        }
-    });
-    Line { name, against: "judge", count: messages.len(), sides: [pieces, judge] }
+    Line { name, against: "whole", count: messages.len(), sides: [pieces, judge_copies(messages, trials::judge_copy)] }
 }
 
-/// An Echo Request with `3/0` and then so many elements of a type that is not listed, each of `length` octets.
-fn echo(count: usize, length: usize) -> Vec<u8> {
-    let mut message = vec![0x40, 1, 0, 0, 0, 0, 1, 0, 3, 0, 1, 0, 7];
-    for _ in 0..count {
-        message.extend([200, (length / 256) as u8, (length % 256) as u8, 0]);
-        message.extend(std::iter::repeat_n(0xA5, length));
-    }
-    let length = message.len() - 4;
-    message[2] = (length / 256) as u8;
-    message[3] = (length % 256) as u8;
+/// A message of this header, with its length put right.
+fn with_length(mut message: Vec<u8>) -> Vec<u8> {
+    let length = (message.len() - 4) as u16;
+    message[2..4].copy_from_slice(&length.to_be_bytes());
     message
 }
 
+/// An Echo Request with `3/0` and then so many elements of that type, each of `length` octets.
+fn echo(typ: u8, count: usize, length: usize) -> Vec<u8> {
+    let mut message = vec![0x40, 1, 0, 0, 0, 0, 1, 0, 3, 0, 1, 0, 7];
+    for _ in 0..count {
+        message.extend([typ, (length / 256) as u8, (length % 256) as u8, 0]);
+        message.extend(std::iter::repeat_n(0xA5, length));
+    }
+    with_length(message)
+}
+
+/// A Delete Bearer Command with so many bearer contexts, each with its `73/0`.
+fn bearers(count: usize) -> Vec<u8> {
+    let mut message = vec![0x48, 66, 0, 0, 0, 0, 0, 1, 0, 0, 1, 0];
+    message.extend([93, 0, 5, 0, 73, 0, 1, 0, 5].repeat(count));
+    with_length(message)
+}
+
 /// The lines, of so many generated messages and builds; the large messages a fiftieth as often.
-fn lines(count: usize) -> [Line; 8] {
+fn lines(count: usize) -> [Line; 9] {
     let mut generator = Generator::new(11);
     let mix: Messages = (0..count).map(|_| generator.case()).map(|case| (case.kind, case.message)).collect();
     let few = |message: Vec<u8>| vec![(1, message); count.div_ceil(50)];
     [
-        judge_and_mask("judge and mask, the mix", &mix),
-        judge_and_mask("judge and mask, 1,021 rows", &few(echo(1_020, 0))),
-        judge_and_mask("judge and mask, one value of 4,075 octets", &few(echo(1, 4_075))),
+        judge_and_copy("judge and copy, the mix", &mix),
+        judge_and_copy("judge and copy, 453 bearers", &few(bearers(453))),
+        judge_and_copy("judge and copy, 1,021 rows of private extensions", &few(echo(255, 1_020, 0))),
+        judge_and_copy("judge and copy, one value of 4,075 octets", &few(echo(200, 1, 4_075))),
         clean_alone("clean, the mix", &mix),
         builds("build, whole and with a fault", (0..count).map(|_| generator.build()).collect()),
         in_parts("pieces, the mix in one part", &mix, usize::MAX),

@@ -17,9 +17,8 @@ fn main() {
     let mut builder = Generator::new(!seed);
     let (mut differences, mut builds, mut feeds, mut void) = (0, 0, 0, 0);
     for (turn, case) in figures().into_iter().chain(generated).take(count).enumerate() {
-        let [enough, some] = case.buffers(seed.wrapping_add(turn as u64));
-        let lent = if turn % 2 == 0 { enough } else { some };
-        if let Some(what) = difference(&case, lent) {
+        let lent = case.buffers(seed.wrapping_add(turn as u64));
+        if let Some(what) = difference(&case, lent[turn % lent.len()]) {
             differences += 1;
             println!("{what}\n{}", second::lines::case_line(&case));
         }

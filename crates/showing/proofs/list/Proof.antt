@@ -6,10 +6,10 @@ use Rattle.showing.proofs.list.Statement.{statement}
 use Rattle.showing.proofs.list.Tie as tie
 
 sub-decide : tie.Need-sub-decide
-sub-decide c = omega (arith, c .before .before .pre .size)
+sub-decide c = search needs
 
 part-decide-start : tie.Need-part-decide-start
-part-decide-start c = omega (arith, c .before .before .pre .size)
+part-decide-start c = search needs
 
 part-decide-end : tie.Need-part-decide-end
 part-decide-end c = search needs
@@ -26,18 +26,21 @@ cast-typ c = search needs
 narrow-requires : tie.Need-narrow-requires
 narrow-requires c κs = search needs
 
-head-requires : tie.Need-head-requires
-head-requires c κs =
-    let s = c .before .before .before .before .before .before .before .before .before in
-    headed (s .args .table .now) (s .pre) (s .args .kind) (s .args .message .now) (c .before .before .before .before .before .decide .ensures)
+write-header-requires : tie.Need-write-header-requires
+write-header-requires c κs =
+    let s = c .before .before .before .before .before .before .before .before .before .before .before .before .before in
+    headed (s .args .table .now) (s .pre .0) (s .args .kind) (s .args .message .now) (c .before .before .before .before .before .before .before .decide .ensures)
 
 same-length : tie.Need-same-length
 same-length c = search needs
 
+same-length-2 : tie.Need-same-length-2
+same-length-2 c = search needs
+
 returns : tie.Need-returns
 returns c =
-    let s = c .before .before .before .before .before .before .before .before .before .before .before .before .before in
-    listed (s .args .table .now) (s .pre) (s .args .kind) (s .args .message .now) (c .before .before .before .before .before .before .before .before .before .decide .ensures) (c .before .before .before .before .before .before .octet-at .ensures) (c .before .before .before .before .before .narrow .ensures) (c .before .before .before .head .ensures)
+    let s = c .before .before .before .before .before .before .before .before .before .before .before .before .before .before .before .before .before in
+    listed (s .args .table .now) (s .pre .0) (s .args .kind) (s .args .message .now) (c .before .before .before .before .before .before .before .before .before .before .before .decide .ensures) (s .pre .1) (c .before .before .before .before .before .before .octet-at .ensures) (c .before .before .before .before .before .narrow .ensures) (c .before .before .before .write-header .ensures)
 
 pub list-spec : {M : Type 1} → statement M
 list-spec =
@@ -50,6 +53,7 @@ list-spec =
     octet-at-requires
     cast-typ
     narrow-requires
-    head-requires
+    write-header-requires
     same-length
+    same-length-2
     returns)

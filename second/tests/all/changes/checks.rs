@@ -9,14 +9,9 @@ use second::{Rules, DOCUMENT};
 
 impl Changes {
     pub fn of_checks(&mut self) {
-        let judged = &[Shown::Octets, Shown::Pieces];
-        self.of_order("order of the judge's checks", judged, |rules| {
-            &mut rules.checks.judge
-        });
+        self.of_judge();
+        self.of_written();
         let octets = &[Shown::Octets];
-        self.of_order("order of the masker's checks", octets, |rules| {
-            &mut rules.checks.mask
-        });
         self.of_order("order of the cleaner's checks", octets, |rules| {
             &mut rules.checks.clean
         });
@@ -28,6 +23,74 @@ impl Changes {
         self.of_cleaned();
         self.of_builds();
         self.of_lookups();
+    }
+
+    /// Those of judge and copy in one call, and of the pieces form.
+    fn of_judge(&mut self) {
+        const CLASS: &str = "order of the judge's checks";
+        let checks = DOCUMENT.checks.judge.checks();
+        for at in 0..checks.len() - 1 {
+            let pair = [checks[at], checks[at + 1]];
+            // The lends have one fault beside what is lent.
+            let is_lent = pair.contains(&Check::CopyRoom) || pair.contains(&Check::TableRoom);
+            let name = format!("{:?} and {:?}", pair[0], pair[1]);
+            let mut other = checks.to_vec();
+            other.swap(at, at + 1);
+            let change = self.push(CLASS, name.clone(), ON_ALL, |rules| {
+                rules.checks.judge = Order::new(&other)
+            });
+            change.shown_by(match is_lent {
+                true => &[Shown::Octets, Shown::Lends],
+                false => &[Shown::Octets],
+            });
+            let change = self.push(CLASS, name, ON_ALL, |rules| {
+                rules.checks.judge = Order::new(&other)
+            });
+            let why = "the pieces form has no copy";
+            let is_silent = pair.contains(&Check::CopyRoom);
+            change
+                .shown_by(&[Shown::Pieces])
+                .silent_where(is_silent, why);
+        }
+        // Each of the two checks of what is lent at every other place after 8.
+        for moved in [Check::CopyRoom, Check::TableRoom] {
+            let others = checks.iter().copied().filter(|&check| check != moved);
+            let others = others.collect::<Vec<_>>();
+            for at in 8..=others.len() {
+                let mut other = others.clone();
+                other.insert(at, moved);
+                if other != checks {
+                    let name = format!("{moved:?} at {at}");
+                    let change = self.push(CLASS, name, ON_ALL, |rules| {
+                        rules.checks.judge = Order::new(&other)
+                    });
+                    change.shown_by(&[Shown::Octets, Shown::Lends]);
+                }
+            }
+        }
+    }
+
+    /// Which refusals of the one call write what.
+    fn of_written(&mut self) {
+        use Check::*;
+        const CLASS: &str = "what a refusal writes";
+        let shown = &[Shown::Octets, Shown::Lends];
+        for check in [Framing, TableRoom, Short, Missing] {
+            let name = format!("copy with {check:?}");
+            let change = self.push(CLASS, name, ON_ALL, |rules| {
+                toggle(&mut rules.checks.with_copy, check);
+            });
+            change.shown_by(shown);
+            let name = format!("table with {check:?}");
+            let change = self.push(CLASS, name, ON_ALL, |rules| {
+                toggle(&mut rules.checks.with_table, check);
+            });
+            change.shown_by(shown);
+        }
+        self.push(CLASS, "table with CopyRoom".into(), ON_ALL, |rules| {
+            toggle(&mut rules.checks.with_table, CopyRoom);
+        })
+        .shown_by(shown);
     }
 
     /// Each check exchanged with the next.
@@ -58,7 +121,7 @@ impl Changes {
                 });
                 change.shown_by(match code {
                     1 | 7 => &[Shown::Octets, Shown::Builds, Shown::Pieces],
-                    13 => &[Shown::Octets],
+                    13 => &[Shown::Octets, Shown::Lends],
                     14..=16 => &[Shown::Builds],
                     17 => &[Shown::Pieces],
                     _ => &[Shown::Octets, Shown::Pieces],
@@ -120,5 +183,13 @@ impl Changes {
     fn lookup(&mut self, name: String, change: impl FnOnce(&mut Rules)) {
         let change = self.push("lookups", name, ON_ALL, change);
         change.shown_by(&[Shown::Lookups]);
+    }
+}
+
+/// Takes it out where it is, and puts it in where it is not.
+fn toggle(checks: &mut Vec<Check>, check: Check) {
+    match checks.iter().position(|&other| other == check) {
+        Some(at) => drop(checks.remove(at)),
+        None => checks.push(check),
     }
 }

@@ -30,11 +30,13 @@ pub struct Bears {
     pub standing: Option<usize>,
 }
 
-/// The comparisons: of judge, masker and cleaner, of the judge program, of the
-/// lookups, of the builder, and of the pieces form.
+/// The comparisons: of judge and copy with the cleaner, of the first alone with
+/// buffers of every length, of the judge program, of the lookups, of the builder,
+/// and of the pieces form.
 #[derive(Debug, Clone, Copy, PartialEq, Eq)]
 pub enum Shown {
     Octets,
+    Lends,
     Program,
     Lookups,
     Builds,

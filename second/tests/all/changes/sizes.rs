@@ -129,6 +129,19 @@ impl Changes {
         })
         .shown_by(&[Program])
         .silent_where(true, "no message has more elements than that");
+        let copy = |rules: &mut Rules, by| {
+            let octets = &mut rules.sizes.program_copy;
+            *octets = octets.saturating_add_signed(by);
+        };
+        self.push("sizes", "program's copy less".into(), ON_ALL, |rules| {
+            copy(rules, -1)
+        })
+        .shown_by(&[Program]);
+        self.push("sizes", "program's copy more".into(), ON_ALL, |rules| {
+            copy(rules, 1)
+        })
+        .shown_by(&[Program])
+        .silent_where(true, "no message is longer than that");
     }
 
     /// What each number of the header tells, and what is counted as kept.

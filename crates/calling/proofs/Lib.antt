@@ -1,0 +1,4 @@
+pub mod Lent
+pub mod Deciding
+pub mod Settling
+pub mod Held
