@@ -11,7 +11,7 @@
  *     while it is read.
  * They keep nothing between calls but what stands in the state and the table, allocate nothing, call nothing but memset and memcpy, and may be called
  * from several threads at once.
- * For x86-64 alone. Stack: under 20 KiB for wok_judge_copy, under 18 KiB for wok_build, under 15 KiB for each other call; and on the first call about
+ * For x86-64 alone. Stack: under 20 KiB for wok_judge_copy, under 19 KiB for wok_build, under 15 KiB for each other call; and on the first call about
  * 2 KiB more where the loader binds names late.
  */
 #ifndef WOKSHIMMER_H
@@ -28,16 +28,18 @@ extern "C" {
 #define WOK_KIND_S11 1u
 #define WOK_KIND_S4 2u
 #define WOK_KIND_S5_S8 3u
+#define WOK_KIND_S10 4u
 
-/* Codes: the result of each function, and the first of the five numbers. */
+/* Codes: the result of each function, and the first of the five numbers. 21 is tried right after 7, and is one of
+   those that "1 to 9" and "1 to 12" name below. */
 #define WOK_ACCEPTED 0u
-#define WOK_UNKNOWN_KIND 1u       /* the kind is not 1 to 3 */
+#define WOK_UNKNOWN_KIND 1u       /* the kind is not 1 to 4 */
 #define WOK_BAD_SIZE 2u           /* the message is empty or over 4,096 octets */
 #define WOK_WRONG_VERSION 3u      /* the version is not 2 */
 #define WOK_NO_HEADER 4u          /* the message is shorter than its header */
 #define WOK_PIGGYBACKED 5u        /* P is set */
 #define WOK_WRONG_LENGTH 6u       /* the length field + 4 is not the message's length */
-#define WOK_UNKNOWN_MESSAGE 7u    /* the message type is not listed */
+#define WOK_UNKNOWN_MESSAGE 7u    /* the message type is listed on no kind */
 #define WOK_WRONG_T 8u            /* T is wrong for the message type */
 #define WOK_BAD_FRAMING 9u        /* an element does not lie in what its level has left; place. No group with such a fault inside is void */
 #define WOK_TABLE_SHORT 10u       /* judge and copy, end: the table is too short for the rows */
@@ -48,6 +50,7 @@ extern "C" {
 #define WOK_TOO_LARGE 15u         /* build: the message would pass 4,096 octets or the room */
 #define WOK_NOT_WHOLE 16u         /* build: the message would not be accepted with every row kept */
 #define WOK_NOT_TAKEN 17u         /* part, end: the end has been, or the table has another length than at the start; and any state that is too short */
+#define WOK_OFF_KIND 21u          /* the message type is listed, but not on this kind: S10 has 1, 2 and 131, each other kind all but 131 */
 
 /* Reply causes: the second of the five numbers, or 0. */
 #define WOK_CAUSE_INVALID_LENGTH 67u
@@ -69,7 +72,7 @@ extern "C" {
 #define WOK_FIVE_OCTETS 10u       /* code, cause, place, type, instance */
 #define WOK_ANSWER_OCTETS 12u     /* clean, build: the five numbers, and the length of what was written */
 #define WOK_LARGEST_SEQUENCE 16777215u
-#define WOK_STATE_OCTETS 249u     /* start, part, end: what is known of a message between its parts */
+#define WOK_STATE_OCTETS 306u     /* start, part, end: what is known of a message between its parts */
 
 /*
  * Judges a message and makes its masked copy, both of the same octets. Answers the code, the first that applies: 1 to 9; 13, where the copy's buffer is
@@ -81,11 +84,11 @@ extern "C" {
  * alone lends a copy buffer as long as the message all the same, or is told 13.
  * The table holds its header and one row an element, in octet order, depth first; a group that is set aside has its own row and none for what it holds,
  * and 11 and 12 are never given for that. What lies past the numbers used stays, and so does an odd last octet.
- * In the copy every octet that the rules cover is zero, every other one is the message's own. Covered are the values of IMSI (1), MEI (75),
- * MSISDN (76), PCO (78) and private extensions (255), the places in User Location Information (86), the address in PDN Address Allocation (79), and all
- * values of standing WOK_UNEXPECTED and WOK_REPEATED; of a group of standing WOK_VOID each value directly inside it, whole, but not the headers of
- * these. NOT covered are other APNs, TEIDs, F-TEID addresses, traffic filters and whatever else: docs/COVERED.md. Octets past the message's length
- * stay. The copy, passed in the message's place with equal buffers, gives the same verdict, table and copy.
+ * In the copy every octet that the rules cover is zero, every other one is the message's own. Covered are the values of IMSI (1), IP Address (74),
+ * MEI (75), MSISDN (76), PCO (78), MM Context (103 to 108: keys) and private extensions (255), the places in User Location Information (86), the address
+ * in PDN Address Allocation (79), and all values of standing WOK_UNEXPECTED and WOK_REPEATED; of a group of standing WOK_VOID each value directly inside
+ * it, whole, but not the headers of these. NOT covered are other APNs, TEIDs, F-TEID addresses, traffic filters and whatever else: docs/COVERED.md.
+ * Octets past the message's length stay. The copy, passed in the message's place with equal buffers, gives the same verdict, table and copy.
  * The five numbers are written, whatever the code, if their buffer has 10 octets or more; octets past 10 stay. A shorter buffer stays as it was, and
  * stops no other write.
  * The call takes a snapshot: it reads each octet of the message once and works on what it read. The message must not change during a call. If it does,
@@ -110,7 +113,7 @@ uint16_t wok_clean(uint32_t kind, const uint8_t *message, size_t message_len, ui
  * Builds a message, to send: from a TEID (which types 1 and 2 do not carry), a sequence number, a table as wok_judge_copy lays it, which says message
  * type and kind, and a buffer that the rows' values lie in, at their places. A group's place and length are not looked at but worked out from the
  * rows inside it; ignored bits are zero. A table for n rows starts with n, n, 6, 6 + 6 * n, type, kind.
- * Answers the code, the first that applies: 14 where fewer numbers are lent than a header has; 1; 7;
+ * Answers the code, the first that applies: 14 where fewer numbers are lent than a header has; 1; 7; 21;
  *   14: fewer numbers are lent than the header says are used; the header is not that of its rows; a row's parent is neither 0 nor a
  *       group that is open where the row stands (the row before, or one that it stands in); a row is not WOK_KEPT; its type does not fit in eight
  *       bits, its instance in four, or the sequence number in 24; a value that is no group's ends outside the buffer, be it empty;
@@ -150,7 +153,7 @@ uint16_t wok_start(uint32_t kind, uint8_t *state, size_t state_len, uint8_t *tab
 uint16_t wok_part(uint8_t *state, size_t state_len, const uint8_t *part, size_t part_len, uint8_t *table, size_t table_len, uint8_t *five, size_t five_len);
 
 /*
- * Ends the message. Answers the code, 0 to 12. On acceptance the table is what wok_judge_copy makes of one that is all
+ * Ends the message. Answers the code: 0, or 1 to 12. On acceptance the table is what wok_judge_copy makes of one that is all
  * zero; on a refusal every number of it is zero. After that every part and end answers 17 until the next start.
  * Answers 17 where wok_part does. The five numbers as there.
  */

@@ -27,7 +27,7 @@ static const char *const names[FUNCTIONS] = {"judge and copy", "clean", "build",
 /* a start answers its code alone */
 static const size_t number_octets[FUNCTIONS] = {WOK_FIVE_OCTETS, WOK_ANSWER_OCTETS, WOK_ANSWER_OCTETS, 0, WOK_FIVE_OCTETS, WOK_FIVE_OCTETS};
 /* the stack of a call, as the header has it */
-static const size_t said[FUNCTIONS] = {20 * 1024, 15 * 1024, 18 * 1024, 15 * 1024, 15 * 1024, 15 * 1024};
+static const size_t said[FUNCTIONS] = {20 * 1024, 15 * 1024, 19 * 1024, 15 * 1024, 15 * 1024, 15 * 1024};
 
 /* What the builder has besides, of the message that it is to make again. */
 struct head {
@@ -194,10 +194,15 @@ static struct call judge_exact(const struct given *g, size_t table_len) {
     return judge_copy_exact(g, table_len, g->len, WOK_FIVE_OCTETS);
 }
 
+/* Is it one of the refusals by 1 to 9, 21 among them? */
+static int is_early(unsigned code) {
+    return (code >= WOK_UNKNOWN_KIND && code <= WOK_BAD_FRAMING) || code == WOK_OFF_KIND;
+}
+
 /* The five with these lengths, by the order of the refusals, from those with room enough: 1 to 9, then 13, then 10. `used` is what the rows need. */
 static const unsigned *in_order(const struct given *g, const unsigned five[5], size_t table_len, size_t copy_len, size_t used) {
     static const unsigned table_short[5] = {WOK_TABLE_SHORT}, copy_short[5] = {WOK_COPY_SHORT};
-    if (five[0] >= WOK_UNKNOWN_KIND && five[0] <= WOK_BAD_FRAMING) return five;
+    if (is_early(five[0])) return five;
     if (copy_len < g->len) return copy_short;
     return table_len < used ? table_short : five;
 }
@@ -481,7 +486,7 @@ static unsigned try_samples(void) {
 }
 
 /* A head and then elements of type 200 without a value, up to the length; octets that are left over at the end are the last one's. */
-static void try_built(const char *name, const uint8_t *head, size_t head_len, size_t len, const unsigned five[5]) {
+static void try_built(const char *name, uint32_t kind, const uint8_t *head, size_t head_len, size_t len, const unsigned five[5]) {
     static uint8_t message[WOK_LARGEST_MESSAGE + 1];
     static const uint8_t empty[4] = {200, 0, 0, 0};
     memcpy(message, head, head_len);
@@ -491,7 +496,7 @@ static void try_built(const char *name, const uint8_t *head, size_t head_len, si
         message[at - 2] = (uint8_t)(len - at);
         memset(message + at, 1, len - at);
     }
-    try_message(name, WOK_KIND_S11, message, len, five);
+    try_message(name, kind, message, len, five);
 }
 
 /* 4,096 octets of bearer contexts, every one kept: all of it is built again. */
@@ -508,6 +513,26 @@ static void try_kept(void) {
     try_message("bearer contexts in 4,096 octets", WOK_KIND_S11, message, sizeof message, accepted);
 }
 
+/* What message 131 must have, what a PDN connection (109/0) must have beside a bearer, and what that must have: 6, 31 and 31 octets. */
+#define CAUSE 2, 0, 2, 0, 16, 0
+#define CONNECTION 71, 0, 1, 0, 0, 73, 0, 1, 0, 5, 87, 0, 5, 0, 7, 0, 0, 0, 1, 72, 0, 8, 0, 0, 0, 0, 1, 0, 0, 0, 2
+#define IN_BEARER 73, 0, 1, 0, 5, 80, 0, 22, 0, 0x68, 9, 0, 0, 0, 0, 0, 0, 0, 0, 0, 0, 0, 0, 0, 0, 0, 0, 0, 0, 0, 0
+#define BEARER 93, 0, 31, 0, IN_BEARER
+
+/* 4,096 octets of PDN connections with a bearer each, three levels, every element kept. */
+static void try_connections(void) {
+    static const unsigned accepted[5];
+    static const uint8_t head_octets[] = {0x48, 131, 0x0F, 0xFC, 0, 0, 0, 1, 0, 0, 1, 0, CAUSE}, connection[] = {109, 0, 66, 0, BEARER, CONNECTION};
+    static uint8_t message[WOK_LARGEST_MESSAGE];
+    memcpy(message, head_octets, sizeof head_octets);
+    size_t at = sizeof head_octets, rest = (sizeof message - sizeof head_octets) % sizeof connection;
+    for (; at + sizeof connection <= sizeof message; at += sizeof connection) memcpy(message + at, connection, sizeof connection);
+    /* what is left over is that of the last 72/0, and of its group */
+    message[at - 68] = (uint8_t)(66 + rest);
+    message[at - 10] = (uint8_t)(8 + rest);
+    try_message("PDN connections in 4,096 octets", WOK_KIND_S10, message, sizeof message, accepted);
+}
+
 static void try_all_built(void) {
     static const unsigned accepted[5], bad_size[5] = {WOK_BAD_SIZE};
     static const unsigned no_recovery[5] = {WOK_MANDATORY_MISSING, WOK_CAUSE_MANDATORY_IE_MISSING, 0, 3, 0};
@@ -517,15 +542,20 @@ static void try_all_built(void) {
     static const uint8_t small[] = {0x40, 1, 1, 4, 0, 0, 1, 0};
     static const uint8_t small_context[] = {0x48, 66, 1, 4, 0, 0, 0, 1, 0, 0, 1, 0, 93, 0, 0xF8, 0, 73, 0, 1, 0, 5};
     static const uint8_t over_small[] = {0x40, 1, 1, 5, 0, 0, 1, 0, 3, 0, 1, 0, 7};
+    /* one PDN connection with one bearer, whose level has all the rest */
+    static const uint8_t bearer[] = {0x48, 131, 0x0F, 0xFC, 0, 0, 0, 1, 0, 0, 1, 0, CAUSE, 109, 0x0F, 0xEA, 0, CONNECTION, 93, 0x0F, 0xC7, 0, IN_BEARER};
+    static const uint8_t small_bearer[] = {0x48, 131, 1, 4, 0, 0, 0, 1, 0, 0, 1, 0, CAUSE, 109, 0, 0xF2, 0, CONNECTION, 93, 0, 0xCF, 0, IN_BEARER};
     static uint8_t late_rows[8 + 5 + 4 + 3000] = {0x40, 1, 0x0F, 0xF9, 0, 0, 1, 0, 3, 0, 1, 0, 7, 200, 0x0B, 0xB8, 0};
-    try_built("1,022 elements", full, sizeof full, 4096, no_recovery);
-    try_built("1,021 rows", most_rows, sizeof most_rows, 4093, accepted);
-    try_built("a full bearer context", context, sizeof context, 4096, accepted);
-    try_built("264 octets", small, sizeof small, 264, no_recovery);
-    try_built("a bearer context in 264 octets", small_context, sizeof small_context, 264, accepted);
-    try_built("265 octets", over_small, sizeof over_small, 265, accepted);
-    try_built("rows after a long value", late_rows, sizeof late_rows, 4093, accepted);
-    try_built("4,097 octets", full, sizeof full, 4097, bad_size);
+    try_built("1,022 elements", WOK_KIND_S11, full, sizeof full, 4096, no_recovery);
+    try_built("1,021 rows", WOK_KIND_S11, most_rows, sizeof most_rows, 4093, accepted);
+    try_built("a full bearer context", WOK_KIND_S11, context, sizeof context, 4096, accepted);
+    try_built("264 octets", WOK_KIND_S11, small, sizeof small, 264, no_recovery);
+    try_built("a bearer context in 264 octets", WOK_KIND_S11, small_context, sizeof small_context, 264, accepted);
+    try_built("265 octets", WOK_KIND_S11, over_small, sizeof over_small, 265, accepted);
+    try_built("rows after a long value", WOK_KIND_S11, late_rows, sizeof late_rows, 4093, accepted);
+    try_built("a bearer three levels deep in 4,096 octets", WOK_KIND_S10, bearer, sizeof bearer, 4096, accepted);
+    try_built("a bearer three levels deep in 264 octets", WOK_KIND_S10, small_bearer, sizeof small_bearer, 264, accepted);
+    try_built("4,097 octets", WOK_KIND_S11, full, sizeof full, 4097, bad_size);
     try_message("empty", WOK_KIND_S11, full, 0, bad_size);
 }
 
@@ -589,9 +619,11 @@ static size_t some(size_t bound) {
    writes no octet that is not its own. */
 static void try_rubbish(void) {
     static const uint8_t message[] = {0x48, 66, 0, 26, 0, 0, 0, 1, 0, 0, 2, 0, 93, 0, 5, 0, 73, 0, 1, 0, 5, 86, 0, 5, 0, 0x10, 1, 2, 3, 4};
-    for (unsigned turn = 0; turn < 1000; turn++) {
+    static const uint8_t deep[] = {0x48, 131, 0, 84, 0, 0, 0, 1, 0, 0, 2, 0, CAUSE, 109, 0, 66, 0, CONNECTION, BEARER};
+    for (unsigned turn = 0; turn < 2000; turn++) {
         struct given g = {"rubbish for a state", WOK_KIND_S11, message, sizeof message, (int)(turn & 1)};
-        size_t table_len = some(90), len = some(sizeof message + 1);
+        if (turn & 16) g.kind = WOK_KIND_S10, g.message = deep, g.len = sizeof deep;
+        size_t table_len = some(130), len = some(g.len + 1);
         memset(out_room, PATTERN, ROOM);
         memset(state_room, PATTERN, ROOM);
         state = (struct lent){exact(state_room, WOK_STATE_OCTETS, g.at_end), WOK_STATE_OCTETS};
@@ -602,22 +634,32 @@ static void try_rubbish(void) {
             for (size_t i = some(4); i > 0; i--) state.octets[some(WOK_STATE_OCTETS)] = (uint8_t)(turn & 4 ? some(256) : 255 * some(2));
         }
         keep_both();
-        struct call c = turn & 8 ? in_feed(PART, &g, 0, some(sizeof message + 1), table_len) : in_feed(END, &g, 0, 0, table_len);
-        int known = c.code == WOK_ACCEPTED || c.code == WOK_NOT_TAKEN || (c.which == END && c.code <= WOK_MANDATORY_MISSING);
+        struct call c = turn & 8 ? in_feed(PART, &g, 0, some(g.len + 1), table_len) : in_feed(END, &g, 0, 0, table_len);
+        int known = c.code == WOK_ACCEPTED || c.code == WOK_NOT_TAKEN || (c.which == END && (is_early(c.code) || c.code <= WOK_MANDATORY_MISSING));
         check(known && number(c.numbers, 0) == c.code && rest_stays(numbers_room, c.numbers, WOK_FIVE_OCTETS), g.name, names[c.which]);
         check(c.code == WOK_NOT_TAKEN ? both_stay() : keeps_within(&c), g.name, "a write where none may be");
     }
 }
 
-/* What one level of the listings takes: a message with a kept group, against one without. */
-static size_t level_octets(int which) {
-    static const uint8_t without[] = {0x48, 66, 0, 8, 0, 0, 0, 1, 0, 0, 2, 0};
-    static const uint8_t with[] = {0x48, 66, 0, 17, 0, 0, 0, 1, 0, 0, 2, 0, 93, 0, 5, 0, 73, 0, 1, 0, 5};
-    struct given one = {"without", WOK_KIND_S11, without, sizeof without, 1}, two = {"with", WOK_KIND_S11, with, sizeof with, 1};
-    size_t less = which == JUDGE_COPY ? judge_exact(&one, WOK_TABLE_OCTETS).used : on_exact(which, &one, sizeof with, number_octets[which]).used;
-    size_t more = which == JUDGE_COPY ? judge_exact(&two, WOK_TABLE_OCTETS).used : on_exact(which, &two, sizeof with, number_octets[which]).used;
+/* What a level of the listings takes: a message with the kept group that it is in, against one without. */
+static size_t level_octets(int which, struct given without, struct given with) {
+    size_t less = which == JUDGE_COPY ? judge_exact(&without, WOK_TABLE_OCTETS).used : on_exact(which, &without, with.len, number_octets[which]).used;
+    size_t more = which == JUDGE_COPY ? judge_exact(&with, WOK_TABLE_OCTETS).used : on_exact(which, &with, with.len, number_octets[which]).used;
     check(less < more && more - less <= MOST_A_LEVEL, names[which], "a level takes nothing, or too much");
     return more - less;
+}
+
+/* A level in the body, and one in a group there. */
+static void print_levels(void) {
+    static const uint8_t body[] = {0x48, 131, 0, 14, 0, 0, 0, 1, 0, 0, 2, 0, CAUSE};
+    static const uint8_t group[] = {0x48, 131, 0, 49, 0, 0, 0, 1, 0, 0, 2, 0, CAUSE, 109, 0, 31, 0, CONNECTION};
+    static const uint8_t inner[] = {0x48, 131, 0, 84, 0, 0, 0, 1, 0, 0, 2, 0, CAUSE, 109, 0, 66, 0, CONNECTION, BEARER};
+    const struct given one = {"one level", WOK_KIND_S10, body, sizeof body, 1}, two = {"two levels", WOK_KIND_S10, group, sizeof group, 1};
+    const struct given three = {"three levels", WOK_KIND_S10, inner, sizeof inner, 1};
+    printf("stack: the second level takes %zu octets in judge and copy, ", level_octets(JUDGE_COPY, one, two));
+    printf("%zu in clean; the third ", level_octets(CLEAN, one, two));
+    printf("%zu in judge and copy, ", level_octets(JUDGE_COPY, two, three));
+    printf("%zu in clean\n", level_octets(CLEAN, two, three));
 }
 
 static void print_stack(int larger, const char *which) {
@@ -640,6 +682,7 @@ int main(void) {
     check(rebuilt > 50, "samples built again", "too few");
     try_all_built();
     try_kept();
+    try_connections();
     try_nulls();
     try_null_pieces();
     try_rubbish();
@@ -649,8 +692,7 @@ int main(void) {
     printf("%u samples, %u times built again, %u times in parts\n", samples, rebuilt, in_parts);
     print_stack(0, "messages of up to 264 octets");
     print_stack(1, "larger messages");
-    printf("stack: a level of the listings takes %zu octets in judge and copy, ", level_octets(JUDGE_COPY));
-    printf("%zu in clean\n", level_octets(CLEAN));
+    print_levels();
     printf("stack: %zu of %u octets never written\n", least_left, STACK_OCTETS);
     printf("%u passed, %u failed\n", passed, failed);
     return failed != 0;

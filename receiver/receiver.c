@@ -1,12 +1,12 @@
 /*
- * A receiver of GTPv2-C over UDP and IPv4: receiver [--answer] [--parts] [PORT1 PORT2 PORT3]
+ * A receiver of GTPv2-C over UDP and IPv4: receiver [--answer] [--parts] [PORT1 PORT2 PORT3 PORT4]
  *
  * Build it from the project's folder, after `rt staticlib wokshimmer` and `rt staticlib wokpieces` (receiver/build does this too):
  *   gcc -std=c99 -O2 -Iinclude -o receiver receiver/receiver.c target/staticlib/libwokshimmer.a target/staticlib/libwokpieces.a -lpthread
  *
- * One port a kind, S11, S4 and S5/S8; 0, and no ports at all, let the system choose. The first line names the ports. Every datagram is
+ * One port a kind, S11, S4, S5/S8 and S10; 0, and no ports at all, let the system choose. The first line names the ports. Every datagram is
  * judged and copied in one call, and cleaned; a line of counts comes every second and, on SIGTERM or SIGINT, a last one:
- *   counts|total datagrams N judge (by code, 0 to 13) clean (by code, 0 to 13)
+ *   counts|total datagrams N judge (by code, 0 to 21) clean (by code, 0 to 21)
  *   copies (masked copies made: with 0, 11 and 12) copy (octets of the last one) cleaned (octets of the last cleaned copy)
  *   unlike (datagrams judged otherwise in parts than whole)
  *   dropped (datagrams that came and found the socket's buffer full)
@@ -33,8 +33,8 @@
 #include "stack.h"
 #include "wokshimmer.h"
 
-#define KINDS 3
-#define CODES 14
+#define KINDS 4
+#define CODES (WOK_OFF_KIND + 1) /* 0 to 21, of which no datagram gets 14 to 20 */
 #define STOP_CHECK_MS 100
 #define PARTS 9
 #define LARGEST_PART 2184
@@ -191,7 +191,7 @@ static unsigned long dropped(int port) {
 
 static void print_codes(const char *name, const unsigned long codes[CODES]) {
     printf(" %s", name);
-    for (int code = 0; code < CODES; code++) printf(" %lu", codes[code]);
+    for (unsigned code = 0; code < CODES; code++) printf(" %lu", codes[code]);
 }
 
 static void print_counts(const char *name) {
@@ -255,7 +255,7 @@ int main(int argc, char **argv) {
     numbers += in_parts;
     int given = argc - (int)(numbers - argv);
     if (given != 0 && given != KINDS) {
-        fprintf(stderr, "usage: receiver [--answer] [--parts] [PORT1 PORT2 PORT3]\n");
+        fprintf(stderr, "usage: receiver [--answer] [--parts] [PORT1 PORT2 PORT3 PORT4]\n");
         return 2;
     }
     unsigned opened[KINDS];
@@ -268,7 +268,7 @@ int main(int argc, char **argv) {
     sigaddset(&ends, SIGINT);
     if ((errno = pthread_sigmask(SIG_BLOCK, &ends, NULL)) != 0) fail("signals");
     pthread_t receiving = start();
-    printf("ports %u %u %u\n", opened[0], opened[1], opened[2]);
+    printf("ports %u %u %u %u\n", opened[0], opened[1], opened[2], opened[3]);
     fflush(stdout);
 
     struct timespec second = {1, 0};

@@ -92,6 +92,7 @@ pub fn kind_of(word: &str) -> Option<(u32, &'static str)> {
         "S11" => Some((1, "S11")),
         "S4" => Some((2, "S4")),
         "S5/S8" | "S5S8" | "S5" | "S8" => Some((3, "S5/S8")),
+        "S10" => Some((4, "S10")),
         _ => None,
     }
 }
@@ -196,9 +197,9 @@ fn operated(mut args: Args, operands: Vec<OsString>) -> Result<Args, Instead> {
     let mut operands = operands.into_iter();
     // what is built says its kind itself
     if args.command != Command::Build {
-        let Some(kind) = operands.next() else { return refuse("no KIND: S11, S4 or S5/S8") };
+        let Some(kind) = operands.next() else { return refuse("no KIND: S11, S4, S5/S8 or S10") };
         let Some((number, name)) = kind.to_str().and_then(kind_of) else {
-            return refuse(format!("no kind '{}': S11, S4 or S5/S8", kind.to_string_lossy()));
+            return refuse(format!("no kind '{}': S11, S4, S5/S8 or S10", kind.to_string_lossy()));
         };
         (args.kind, args.kind_name) = (number, name);
     }

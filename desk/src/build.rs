@@ -102,7 +102,7 @@ pub fn is_group(typ: u8) -> bool {
     build(&text, &table, &values, &mut []) != Err(14)
 }
 
-/// A TEID stands there if messages of the type bear one. A type that is not listed is left to the builder.
+/// A TEID stands there if messages of the type bear one. A type that is not listed, or not on the kind, is left to the builder.
 fn teid(library: &mut Library, text: &Text) -> Result<(), Fault> {
     let name = library.message_name(text.typ.1);
     match (library.bears_teid(text.typ.1), text.teid) {
@@ -142,6 +142,7 @@ fn refusal(library: &mut Library, text: &Text, code: u16) -> Vec<Fault> {
     let (line, typ) = text.typ;
     let faults = match code {
         7 => vec![Fault { line, why: format!("message type {typ} {} is not handled", library.message_name(typ)) }],
+        21 => vec![Fault { line, why: format!("message type {typ} {} is not handled on {}", library.message_name(typ), text.kind.1 .1) }],
         16 => why::faults(library, text),
         _ => vec![],
     };

@@ -35,7 +35,7 @@ pub const VOID: u16 = 4;
 /// The five numbers: code, cause, place, type, instance.
 pub type Five = [u16; 5];
 
-/// The judge's answer; rows and kept rows of an accepted message; the masked copy of one that passes checks 1 to 9.
+/// The judge's answer; rows and kept rows of an accepted message; the masked copy of one that passes checks 1 to 9, 21 among them.
 pub struct Judged {
     pub five: Five,
     pub rows: Vec<Row>,
@@ -100,10 +100,10 @@ impl Library {
         }
     }
 
-    /// Whether messages of a type bear a TEID; found by judging a header without one. Nothing of a type that is not listed.
+    /// Whether messages of a type bear a TEID; found by judging a header without one. Nothing of a type that is not listed, or not on the kind.
     pub fn bears_teid(&mut self, typ: u8) -> Option<bool> {
         match self.judge(&[0x40, typ, 0, 4, 0, 0, 0, 0]).five[0] {
-            7 => None,
+            7 | 21 => None,
             code => Some(code == 8),
         }
     }

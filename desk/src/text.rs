@@ -95,7 +95,7 @@ impl Reader {
         let (name, value) = words.split_once(blank).unwrap_or((words, ""));
         let value = value.trim_start_matches(blank);
         match name {
-            "kind" => once(number, &mut self.kind, args::kind_of(value), "S11, S4 or S5/S8 after 'kind'"),
+            "kind" => once(number, &mut self.kind, args::kind_of(value), "S11, S4, S5/S8 or S10 after 'kind'"),
             "type" => once(number, &mut self.typ, small(value, 255), "a message type from 0 to 255 after 'type'"),
             "teid" => once(number, &mut self.teid, teid(value), "a TEID after 'teid': 8 hex digits, as 0x00000001"),
             "sequence" => once(number, &mut self.sequence, sequence(value), "a number from 0 to 16777215 after 'sequence', or in hex with 0x"),

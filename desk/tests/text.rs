@@ -6,7 +6,7 @@ use wok::build::{self, Refused};
 use wok::library::{Judged, Library, Row};
 use wok::{clean, edit, hex, page, text};
 
-const KINDS: [&str; 4] = ["", "S11", "S4", "S5/S8"];
+const KINDS: [&str; 5] = ["", "S11", "S4", "S5/S8", "S10"];
 
 fn folder() -> PathBuf {
     Path::new(env!("CARGO_MANIFEST_DIR")).join("../samples")
@@ -35,19 +35,20 @@ impl Dice {
     }
 }
 
-/// The samples that checks 1 to 9 pass, and as many of them with other octets as pass too.
+/// The samples that checks 1 to 9 pass, and as many of them with other octets as pass too; those that are on S10 alone stay there.
 fn messages(each: usize) -> Vec<(u32, Vec<u8>)> {
-    const OCTETS: [u8; 16] = [0, 1, 2, 3, 4, 0x10, 0x49, 0x4f, 0x56, 0x57, 0x5d, 0x61, 0x72, 0xb4, 0xc8, 0xff];
+    const OCTETS: [u8; 19] = [0, 1, 2, 3, 4, 0x10, 0x49, 0x4a, 0x4f, 0x56, 0x57, 0x5d, 0x61, 0x6b, 0x6d, 0x72, 0xb4, 0xc8, 0xff];
     let mut dice = Dice(0x29274);
     let mut all = vec![];
-    for (kind, _, message) in samples().into_iter().filter(|s| s.1 == 0 || s.1 > 9) {
+    for (kind, _, message) in samples().into_iter().filter(|s| matches!(s.1, 0 | 11 | 12)) {
         for _ in 0..each {
             let mut other = message.clone();
             for _ in 0..=dice.below(3) {
                 let at = dice.below(other.len());
                 other[at] = OCTETS[dice.below(OCTETS.len())];
             }
-            all.push((1 + dice.below(3) as u32, other));
+            let any = 1 + dice.below(4) as u32;
+            all.push((if kind == 4 { kind } else { any }, other));
         }
         all.push((kind, message));
     }
@@ -98,7 +99,7 @@ fn what_edit_writes_is_read_as_the_same_rows() {
         for (e, &[parent, typ, instance, place, length, _]) in said.elements.iter().zip(&wanted) {
             assert_eq!([e.parent as u16, e.typ.into(), e.instance.into()], [parent, typ, instance]);
             let value = &message[usize::from(place)..usize::from(place + length)];
-            assert_eq!(e.value.as_deref(), (![93, 180].contains(&typ)).then_some(value));
+            assert_eq!(e.value.as_deref(), (![93, 109, 180].contains(&typ)).then_some(value));
             rows += 1;
         }
         refused += usize::from(judged.five[0] > 0);
@@ -218,16 +219,17 @@ fn words_by_chance() {
 /// Rule 3.3.
 #[test]
 fn the_groups() {
-    assert_eq!((0..=255).filter(|typ| build::is_group(*typ)).collect::<Vec<u8>>(), [93, 180]);
+    assert_eq!((0..=255).filter(|typ| build::is_group(*typ)).collect::<Vec<u8>>(), [93, 109, 180]);
 }
 
 /// Rule 3.2, on each kind.
 #[test]
 fn who_bears_a_teid() {
-    for kind in 1..4 {
+    for kind in 1..=4 {
         let mut library = Library::new(kind);
         let mut with = |answer| (0..=255).filter(|typ| library.bears_teid(*typ) == answer).collect::<Vec<u8>>();
-        assert_eq!((with(Some(false)), with(Some(true))), (vec![1, 2], vec![32, 37, 66, 67, 68, 69, 97]));
+        let bear = if kind == 4 { vec![131] } else { vec![32, 37, 66, 67, 68, 69, 97] };
+        assert_eq!((with(Some(false)), with(Some(true))), (vec![1, 2], bear));
     }
 }
 

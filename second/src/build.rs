@@ -28,6 +28,10 @@ impl Rules {
         let kind = self.told(table, Told::Kind).map(u32::from);
         let kind = kind.filter(|kind| self.kinds.contains(kind));
         let listed = self.listed(table);
+        let is_off_kind = match (listed, kind) {
+            (Some(listed), Some(kind)) => !listed.kinds.has(kind),
+            _ => false,
+        };
         let rows = self.entries(table).unwrap_or_default();
         let sound = self.is_sound(head, table, &rows, values);
         let need = self.built_length(listed, &rows);
@@ -42,6 +46,7 @@ impl Rules {
         let faults = fault(Check::TableHeader, table.len() < self.sizes.table_header)
             | fault(Check::Kind, kind.is_none())
             | fault(Check::Type, listed.is_none())
+            | fault(Check::OffKind, is_off_kind)
             | fault(Check::Table, !sound)
             | fault(Check::Room, need > self.sizes.longest.min(room.len()))
             | fault(Check::Built, !is_kept);

@@ -120,6 +120,8 @@ impl<'r> Header<'r> {
         let teid = flags & bits.teid != 0;
         let typ = message.get(sizes.type_octet);
         let listed = typ.and_then(|&typ| rules.message_of(typ));
+        // A type that is not listed is off no kind.
+        let is_off_kind = listed.is_some_and(|listed| !listed.kinds.has(kind));
         // A type that is not listed would want T = 1, as most do.
         let wants_teid = listed.is_none_or(|listed| listed.teid);
         let counted = match *message {
@@ -133,6 +135,7 @@ impl<'r> Header<'r> {
             | fault(Check::Piggyback, flags & bits.piggyback != 0)
             | fault(Check::Length, counted + sizes.uncounted != length)
             | fault(Check::Type, listed.is_none())
+            | fault(Check::OffKind, is_off_kind)
             | fault(Check::Teid, wants_teid != teid);
         Self {
             listed,

@@ -10,7 +10,7 @@ use std::sync::LazyLock;
 use crate::rules::{Bits, Builds, Check, Checks, Lookups, Order, Rules, Sizes, Table, Told, CODES};
 
 pub static DOCUMENT: LazyLock<Rules> = LazyLock::new(|| Rules {
-    kinds: 1..=3,
+    kinds: 1..=4,
     messages: listings::messages(),
     types: types::types(),
     bits: Bits {
@@ -49,7 +49,7 @@ fn sizes() -> Sizes {
         row: 6,
         five: 10,
         answer: 12,
-        state: 249,
+        state: 306,
         most_rows: 1022,
         program_copy: 4096,
     }
@@ -77,7 +77,7 @@ const MANDATORY_MISSING: u16 = 70;
 fn checks() -> Checks {
     use Check::*;
     let framing = [
-        Kind, Size, Version, Header, Piggyback, Length, Type, Teid, Framing,
+        Kind, Size, Version, Header, Piggyback, Length, Type, OffKind, Teid, Framing,
     ];
     let mut causes = [0; CODES];
     for check in [Length, Framing, Short] {
@@ -87,7 +87,7 @@ fn checks() -> Checks {
     Checks {
         judge: Order::new(&[&framing[..], &[CopyRoom, TableRoom, Short, Missing]].concat()),
         clean: Order::new(&[&framing[..], &[Short, Missing, CopyRoom]].concat()),
-        build: Order::new(&[TableHeader, Kind, Type, Table, Room, Built]),
+        build: Order::new(&[TableHeader, Kind, Type, OffKind, Table, Room, Built]),
         with_copy: vec![Short, Missing],
         with_table: Vec::new(),
         causes,

@@ -8,7 +8,8 @@ use crate::rules::{Inst, Listed, Message, Rules};
 #[derive(Debug, Clone, Copy)]
 pub struct Line<'r> {
     pub message: u8,
-    /// Type and instance of the group, or nothing for the body.
+    /// Type and instance of the group, or nothing for the body. Of groups in
+    /// groups it is the innermost: no message lists one pair's inside twice.
     pub level: Option<(u8, Inst)>,
     pub listed: &'r Listed,
 }
@@ -46,9 +47,9 @@ fn push_lines<'r>(
 }
 
 impl fmt::Display for Message {
-    /// `MESSAGE T 0|1`.
+    /// `MESSAGE T 0|1 KINDS`.
     fn fmt(&self, f: &mut fmt::Formatter) -> fmt::Result {
-        write!(f, "{} T {}", self.typ, u8::from(self.teid))
+        write!(f, "{} T {} {}", self.typ, u8::from(self.teid), self.kinds)
     }
 }
 

@@ -138,6 +138,7 @@ impl Pieces<'_> {
         let Rules { bits, sizes, .. } = self.rules;
         let (flags, teid) = (self.header[0], self.has_teid());
         let listed = self.typ().and_then(|typ| self.rules.message_of(typ));
+        let is_off_kind = listed.is_some_and(|listed| !listed.kinds.has(self.kind));
         let wants_teid = listed.is_none_or(|listed| listed.teid);
         let needed = sizes.header[usize::from(teid)] as u64;
         fault(Check::Kind, !self.rules.kinds.contains(&self.kind))
@@ -148,6 +149,7 @@ impl Pieces<'_> {
             | fault(Check::Piggyback, flags & bits.piggyback != 0)
             | fault(Check::Length, self.count != self.length() as u64)
             | fault(Check::Type, listed.is_none())
+            | fault(Check::OffKind, is_off_kind)
             | fault(Check::Teid, wants_teid != teid)
             | self.body.as_ref().map_or(0, |body| self.body_faults(body))
     }

@@ -31,6 +31,8 @@ pub struct Message {
     pub typ: u8,
     /// Does the header have T = 1, and so a TEID?
     pub teid: bool,
+    /// The interface kinds that the message is on.
+    pub kinds: Kinds,
     pub body: Vec<Listed>,
 }
 
@@ -56,7 +58,7 @@ pub enum Inst {
     Any,
 }
 
-/// The interface kinds where a pair is listed, bit `kind` for each.
+/// The interface kinds where a message or a pair is listed, bit `kind` for each.
 #[derive(Debug, Clone, Copy, PartialEq, Eq)]
 pub struct Kinds(pub u8);
 
@@ -202,11 +204,13 @@ pub enum Check {
     Room = 15,
     Built = 16,
     Ended = 17,
+    /// A listed message type that is not on this kind.
+    OffKind = 21,
     /// 14 for a table without a whole header.
     TableHeader = 31,
 }
 
-pub const CODES: usize = 18;
+pub const CODES: usize = 22;
 
 impl Check {
     pub fn code(self) -> u16 {
@@ -356,6 +360,12 @@ impl Kinds {
     pub fn has(self, kind: u32) -> bool {
         kind < 8 && self.0 & 1 << kind != 0
     }
+
+    /// Each of them, ascending.
+    pub fn each(self) -> impl ExactSizeIterator<Item = u32> + Clone {
+        let kinds = (0..8).filter(|&kind| self.has(kind)).collect::<Vec<_>>();
+        kinds.into_iter()
+    }
 }
 
 impl Facts {
@@ -386,8 +396,6 @@ impl fmt::Display for Inst {
 
 impl fmt::Display for Kinds {
     fn fmt(&self, f: &mut fmt::Formatter) -> fmt::Result {
-        (0..8)
-            .filter(|&kind| self.has(kind))
-            .try_for_each(|kind| write!(f, "{kind}"))
+        self.each().try_for_each(|kind| write!(f, "{kind}"))
     }
 }

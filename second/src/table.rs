@@ -41,7 +41,7 @@ impl Rules {
             Told::Kind => kind as usize,
             told => told.counted(rows, kept).unwrap_or_default(),
         };
-        // At most 1,022 rows and three kinds, so all of them fit 16 bits.
+        // At most 1,022 rows and four kinds, so all of them fit 16 bits.
         let numbers = self.table.header.iter().map(number);
         numbers.map(|number| number as u16)
     }

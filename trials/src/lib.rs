@@ -153,6 +153,9 @@ pub fn state_octets() -> usize {
 /// The code of a part or an end that is not taken.
 pub const NOT_TAKEN: u16 = 17;
 
+/// The code of a message that is listed, and not on the kind. It is one of "1 to 9".
+pub const OFF_KIND: u16 = 21;
+
 /// Octets that show whether they were written over.
 pub fn filled(length: usize, seed: usize) -> Vec<u8> {
     let octet = |at: usize| (at.wrapping_mul(31).wrapping_add(seed.wrapping_mul(97)) % 251) as u8 | 1;
@@ -190,6 +193,12 @@ impl Judged {
         judged.code = call(case.kind, &case.message, &mut judged.table, &mut judged.copy, &mut judged.five);
         judged
     }
+}
+
+/// Whether a message that 1 to 9 let pass has an element in a group in a group.
+pub fn is_deep(case: &Case) -> bool {
+    let rows = DOCUMENT.rows(case.kind, &case.message).unwrap_or_default();
+    rows.iter().any(|row| row.parent != 0 && rows[usize::from(row.parent) - 1].parent != 0)
 }
 
 /// What differs between the two programs on one message with these buffers, if anything does.
@@ -257,11 +266,12 @@ pub fn rubbish_fault(call: &Fed, state: &[u8], table: &[u8]) -> Option<String> {
     let code = fed(call, &mut state_after[..state_len], &mut table_after[..table_len], &mut five);
     let is_taken = code != NOT_TAKEN;
     let (own, numbers) = if is_taken { (state_octets(), table_len / 2 * 2) } else { (0, 0) };
-    let codes = if matches!(call.what, What::End) { 0..=12 } else { 0..=0 };
+    let is_end = matches!(call.what, What::End);
+    let is_told = code == 0 || is_end && (code <= 12 || code == OFF_KIND);
     let is_start = matches!(call.what, What::Start(_));
     let told = if is_start { [0xEE, 0xEE] } else { code.to_be_bytes() };
     let checks = [
-        ("no such code", !is_taken || codes.contains(&code)),
+        ("no such code", !is_taken || is_told),
         ("a short state is taken", !is_taken || state_len >= state_octets()),
         ("the state is written where it may not be", state_after.get(own..) == state.get(own..)),
         ("the table is written where it may not be", table_after[numbers..] == table[numbers..]),

@@ -1,16 +1,20 @@
 //! The proved library against the second program: every answer and every lent octet, with buffers around each boundary.
 
 use second::generate::{Buffers, Build, builds, Call, Case, Cut, Feed, figures, Generator, lends, Random, What, CUTS};
-use trials::{build_difference, difference, feed_difference, rubbish_fault, state_octets, Judged};
+use trials::{build_difference, difference, feed_difference, is_deep, rubbish_fault, state_octets, Judged, OFF_KIND};
+
+/// One more than the largest code.
+const CODES: usize = OFF_KIND as usize + 1;
 
 /// How often each code was met: of judge and copy with the largest buffers and with those of the trials, of the cleaner with those of the trials. And
-/// how many messages have a void group in the library's table.
+/// how many messages have a void group in the library's table, and how many are three levels deep.
 #[derive(Debug, Default)]
 struct Codes {
-    judge: [usize; 14],
-    lent: [usize; 14],
-    clean: [usize; 14],
+    judge: [usize; CODES],
+    lent: [usize; CODES],
+    clean: [usize; CODES],
     void: usize,
+    deep: usize,
 }
 
 /// The code with the largest table and copy, and whether a row of that table is void.
@@ -37,6 +41,7 @@ fn compare(cases: impl IntoIterator<Item = Case>) -> Codes {
         let (code, is_void) = judged(&case);
         codes.judge[usize::from(code)] += 1;
         codes.void += usize::from(is_void);
+        codes.deep += usize::from(is_deep(&case));
     }
     codes
 }
@@ -45,12 +50,12 @@ fn compare(cases: impl IntoIterator<Item = Case>) -> Codes {
 #[test]
 fn every_figure() {
     let codes = compare(figures());
-    for code in 0..=13 {
+    for code in (0..=13).chain([OFF_KIND.into()]) {
         assert!(code == 10 || code == 13 || codes.judge[code] >= 10, "{codes:?}");
         assert!(codes.lent[code] >= 10, "{codes:?}");
         assert!(code == 10 || codes.clean[code] >= 10, "{codes:?}");
     }
-    assert!(codes.void >= 1_400, "{codes:?}");
+    assert!(codes.void >= 1_400 && codes.deep >= 2_000, "{codes:?}");
 }
 
 /// Tables around what the rows need, each with copies around the message's length and with buffers around the ten octets of the five numbers.
@@ -66,7 +71,7 @@ fn around_each_limit(case: &Case) -> impl Iterator<Item = Buffers> {
 /// The code with these buffers, by the order of the refusals, from that with room enough.
 fn in_order(enough: u16, case: &Case, lent: Buffers) -> u16 {
     match enough {
-        1..=9 => enough,
+        1..=9 | OFF_KIND => enough,
         _ if lent.copy < case.message.len() => 13,
         _ if lent.table / 2 < case.table_need() => 10,
         _ => enough,
@@ -84,7 +89,7 @@ fn written(code: u16, case: &Case, lent: Buffers) -> [usize; 3] {
 /// refusals, what each writes, and what the second program leaves in all three buffers.
 #[test]
 fn refusals_in_their_order() {
-    let mut codes = [0; 14];
+    let mut codes = [0; CODES];
     for (case, _) in lends() {
         let (enough, _) = judged(&case);
         for lent in around_each_limit(&case) {
@@ -99,12 +104,12 @@ fn refusals_in_their_order() {
             codes[usize::from(ours.code)] += 1;
         }
     }
-    assert!(codes.iter().all(|count| *count >= 100), "{codes:?}");
+    assert!((0..=13).chain([OFF_KIND.into()]).all(|code| codes[code] >= 100), "{codes:?}");
 }
 
 /// Both trials of each build, and how often each code was met.
-fn compare_builds(builds: impl IntoIterator<Item = Build>) -> [usize; 17] {
-    let mut codes = [0; 17];
+fn compare_builds(builds: impl IntoIterator<Item = Build>) -> [usize; CODES] {
+    let mut codes = [0; CODES];
     for (seed, build) in builds.into_iter().enumerate() {
         for lent in build.lent(seed as u64) {
             if let Some(what) = build_difference(&build, lent) {
@@ -121,7 +126,7 @@ fn compare_builds(builds: impl IntoIterator<Item = Build>) -> [usize; 17] {
 #[test]
 fn every_build() {
     let codes = compare_builds(builds());
-    for code in [0, 1, 7, 14, 15, 16] {
+    for code in [0, 1, 7, 14, 15, 16, OFF_KIND.into()] {
         assert!(codes[code] >= 100, "{codes:?}");
     }
 }
@@ -135,7 +140,7 @@ fn ten_thousand_builds_of_the_mix() {
 #[test]
 fn ten_thousand_of_the_mix() {
     let codes = compare(Generator::new(2029).take(10_000));
-    assert!(codes.void >= 100, "{codes:?}");
+    assert!(codes.void >= 100 && codes.deep >= 300, "{codes:?}");
 }
 
 /// Groups with about as many elements as they may hold, whole and with faults inside and beside them.
@@ -203,7 +208,7 @@ fn every_octet_changed(name: &str, message: &[u8]) -> usize {
         for value in 0..=255 {
             let mut changed = message.to_vec();
             changed[at] = value;
-            for kind in 1..=3 {
+            for kind in 1..=4 {
                 let case = Case { kind, message: changed.clone() };
                 let enough = case.enough();
                 let mut lent = vec![enough];
@@ -303,7 +308,7 @@ fn pieces_of_every_sample_cut_everywhere() {
     let mut random = Random::new(7);
     let mut count = 0;
     for (name, message) in samples() {
-        for kind in 1..=3 {
+        for kind in 1..=4 {
             let case = Case { kind, message: message.clone() };
             let everywhere = (0..=message.len()).map(Cut::At);
             for cut in everywhere.chain(CUTS) {

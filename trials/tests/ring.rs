@@ -4,10 +4,12 @@
 
 use second::generate::Buffers;
 use std::sync::atomic::{AtomicBool, AtomicU8, Ordering::Relaxed};
+use std::time::{Duration, Instant};
 use trials::{judge_copy, judge_copy_shared, Judged};
 
-/// With each pair of messages.
+/// With each pair of messages; more, where the two threads seldom run at once, until both forms and what is neither were met, or it has taken too long.
 const CALLS: usize = 50_000;
+const LONGEST: Duration = Duration::from_secs(60);
 const KIND: u32 = 1;
 
 /// An element with its value.
@@ -71,6 +73,12 @@ struct Met {
     refused: usize,
 }
 
+impl Met {
+    fn is_enough(&self) -> bool {
+        self.forms.iter().all(|count| *count >= 10) && self.torn + self.refused >= 10
+    }
+}
+
 /// One call on the shared message, and the same on its copy, with these buffers.
 fn one_string(shared: &[AtomicU8], lent: &Judged) -> Judged {
     let mut first = lent.clone();
@@ -105,7 +113,10 @@ fn rewritten_meanwhile(forms: [Vec<u8>; 2]) -> Met {
         scope.spawn(|| rewrite(&shared, &forms, &ended));
         // the other thread ends where this one fails, too
         let calls = std::panic::catch_unwind(std::panic::AssertUnwindSafe(|| {
-            for _ in 0..CALLS {
+            let began = Instant::now();
+            let mut calls = 0;
+            while calls < CALLS || !met.is_enough() && began.elapsed() < LONGEST {
+                calls += 1;
                 let judged = one_string(&shared, &lent);
                 match alone.iter().position(|whole| *whole == judged) {
                     Some(form) => met.forms[form] += 1,
@@ -119,7 +130,7 @@ fn rewritten_meanwhile(forms: [Vec<u8>; 2]) -> Met {
             std::panic::resume_unwind(failure);
         }
     });
-    println!("{length} octets, {CALLS} calls: {met:?}");
+    println!("{length} octets: {met:?}");
     met
 }
 
@@ -128,6 +139,6 @@ fn rewritten_meanwhile(forms: [Vec<u8>; 2]) -> Met {
 fn table_and_copy_are_of_one_string() {
     for forms in [of_one_type(3), of_one_type(30), of_one_type(70), of_two_types()] {
         let met = rewritten_meanwhile(forms);
-        assert!(met.forms.iter().all(|count| *count >= 10) && met.torn + met.refused >= 10, "{met:?}");
+        assert!(met.is_enough(), "{met:?}");
     }
 }

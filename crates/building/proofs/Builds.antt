@@ -1,5 +1,5 @@
 -- What is answered: by the checks before the message is made, and then by the message of the table's rows, which is the message that the rules build. Assumes nothing.
---     early-kind, early-type, early-table, early-none    the first checks
+--     early-kind, early-type, early-other, early-table, early-none    the first checks
 --     Holds       a run of numbers that holds the table's rows         makes   it can be written
 --     refused-early, refused-large, builds                             the answer
 use mathlib.Core.Path.{_≡_, refl, sym, ap, _∙_}
@@ -67,33 +67,40 @@ module _ (kind typ sequence : ℕ) (t values : List ℕ) where
   unfolding first check
   early-type e f = rw (e, f)
 
-  pub early-table : among kind (book .kinds) ≡ true → isMessage book typ ≡ true → (NoReason sequence t values → ⊥) → refused 14 0 ≡ early
+  pub early-other : among kind (book .kinds) ≡ true → isMessage book typ ≡ true → among kind (messageOf book typ .kinds) ≡ false → refused 21 0 ≡ early
   unfolding first check
-  early-table e f g = rw (e, f, some-holds sequence t values g)
+  early-other e f h = rw (e, f, h)
 
-  pub early-none : among kind (book .kinds) ≡ true → isMessage book typ ≡ true → NoReason sequence t values → accepted ≡ early
+  pub early-table : among kind (book .kinds) ≡ true → isMessage book typ ≡ true → among kind (messageOf book typ .kinds) ≡ true → (NoReason sequence t values → ⊥) → refused 14 0 ≡ early
   unfolding first check
-  early-none e f g = rw (e, f, none-holds sequence t values g)
+  early-table e f h g = rw (e, f, h, some-holds sequence t values g)
+
+  pub early-none : among kind (book .kinds) ≡ true → isMessage book typ ≡ true → among kind (messageOf book typ .kinds) ≡ true → NoReason sequence t values → accepted ≡ early
+  unfolding first check
+  early-none e f h g = rw (e, f, h, none-holds sequence t values g)
 
   -- and what it is where none of them applies
   pub record Opens : Type 0 where
     pub kind-known : among kind (book .kinds) ≡ true
     pub type-listed : isMessage book typ ≡ true
+    pub on-kind : among kind (messageOf book typ .kinds) ≡ true
     pub right : NoReason sequence t values
 
   pub opens : early .code ≡ 0 → Opens
   unfolding first check
-  opens z = go (among kind (book .kinds)) (isMessage book typ) (anyOf (reasons sequence t values)) refl refl refl z
+  opens z = go (among kind (book .kinds)) (isMessage book typ) (among kind (messageOf book typ .kinds)) (anyOf (reasons sequence t values)) refl refl refl refl z
     where
-      go : (a c d : Bool) → among kind (book .kinds) ≡ a → isMessage book typ ≡ c → anyOf (reasons sequence t values) ≡ d
+      go : (a c o d : Bool) → among kind (book .kinds) ≡ a → isMessage book typ ≡ c → among kind (messageOf book typ .kinds) ≡ o → anyOf (reasons sequence t values) ≡ d
           → cond (refuses (cond (not a) (refused 1 0) accepted)) (cond (not a) (refused 1 0) accepted)
           (cond (refuses (cond (not c) (refused 7 0) accepted)) (cond (not c) (refused 7 0) accepted)
-          (cond (refuses (cond d (refused 14 0) accepted)) (cond d (refused 14 0) accepted) accepted)) .code ≡ 0
+          (cond (refuses (cond (not o) (refused 21 0) accepted)) (cond (not o) (refused 21 0) accepted)
+          (cond (refuses (cond d (refused 14 0) accepted)) (cond d (refused 14 0) accepted) accepted))) .code ≡ 0
           → Opens
-      go false c d w e f y = absurd (omega arith)
-      go true false d w e f y = absurd (omega arith)
-      go true true true w e f y = absurd (omega arith)
-      go true true false w e f y = record { kind-known = w; type-listed = e; right = no-reason sequence t values f }
+      go false c o d w e h f y = absurd (omega arith)
+      go true false o d w e h f y = absurd (omega arith)
+      go true true false d w e h f y = absurd (omega arith)
+      go true true true true w e h f y = absurd (omega arith)
+      go true true true false w e h f y = record { kind-known = w; type-listed = e; on-kind = h; right = no-reason sequence t values f }
 
 module _ (kind typ teid sequence : ℕ) (t values room : List ℕ) where
   -- the checks are those, and two more
@@ -126,7 +133,7 @@ module _ (kind typ teid sequence : ℕ) (t values room : List ℕ) where
       let a = many-rows (rowCount t) 0 (λ j z c. o .right .each j (omega arith) .stand) in
       let b : ltb largestMessage (builtLength book kind typ teid sequence t values) ≡ true =
       lt-ltb largestMessage (builtLength book kind typ teid sequence t values) (omega (arith, a, large-by (hasTeid book kind typ teid sequence t values))) in
-      rw (o .kind-known, o .type-listed, none-holds sequence t values (o .right), b)
+      rw (o .kind-known, o .type-listed, o .on-kind, none-holds sequence t values (o .right), b)
 
   pub refused-large : Opens kind typ sequence t values → (x : ℕ) → x ≡ rowCount t → mostRows < x → (s : Sent) → s ≡ record { verdict = refused 15 0; length = 0 }
       → BuildsBy kind typ teid sequence t values room s room
@@ -294,7 +301,7 @@ module _ (kind typ teid sequence : ℕ) (t values room rows : List ℕ) (count a
 
   late-is : first (lateChecks kind typ teid sequence at rows count values room) ≡ lateVerdict book kind typ teid sequence t values (length room)
   unfolding buildChecks first check
-  late-is = rw (message-is, size-is, o .kind-known, o .type-listed, none-holds sequence t values (o .right))
+  late-is = rw (message-is, size-is, o .kind-known, o .type-listed, o .on-kind, none-holds sequence t values (o .right))
 
   pub builds : {s : Sent} {room′ : List ℕ} → Made kind typ teid sequence at rows count values room s room′ → BuildsBy kind typ teid sequence t values room s room′
   builds {s} {room′} b = record {

@@ -8,7 +8,7 @@ use lib.Dec.{eqb, ltb}
 use lib.ListN.{length, getD}
 use Rattle.rules.specs.Sizes.{largestMessage, headerNumbers, rowNumbers}
 use Rattle.rules.specs.Types.{among, isGroup}
-use Rattle.rules.specs.Listings.{book, isMessage}
+use Rattle.rules.specs.Listings.{Message, book, isMessage, messageOf}
 use Rattle.rules.specs.Table.{laid}
 use Rattle.rules.specs.Emitting.{acceptedWhole}
 use Rattle.rules.specs.Built.{firstOf, restOf, reasons, anyOf, built, lateVerdict}
@@ -22,6 +22,7 @@ abbrev pub earlyChecks : ℕ → ℕ → ℕ → List ℕ → List ℕ → List 
 earlyChecks k typ sequence t values =
     check (not (among k (book .kinds))) (refused 1 0)
     ∷ check (not (isMessage book typ)) (refused 7 0)
+    ∷ check (not (among k (messageOf book typ .kinds))) (refused 21 0)
     ∷ check (anyOf (reasons sequence t values)) (refused 14 0)
     ∷ []
 

@@ -26,7 +26,7 @@ pub(crate) fn refuse(code: u16) -> Sent
     }
 }
 
-// The checks before the message is made: 1, 7 and 14.
+// The checks before the message is made: 1, 7, 21 and 14.
 pub(crate) fn early(
     kind: u32,
     typ: u32,
@@ -42,6 +42,9 @@ pub(crate) fn early(
     }
     if heading::header_of(typ) == 0 {
         return answers::refuse(7, 0);
+    }
+    if !heading::sent_on(kind, typ) {
+        return answers::refuse(21, 0);
     }
     if !given::right(sequence, numbers, octets, values) {
         return answers::refuse(14, 0);

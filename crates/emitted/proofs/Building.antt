@@ -126,7 +126,7 @@ module _ (b : Book) (fine : sound b ≡ true) (k typ teid sequence : ℕ) (t val
 
     pub right : NoReason sequence t values
     unfolding buildChecks AllPass
-    right = no-reason sequence t values (off _ (refused 14 0) refl (passes .1 .1 .0))
+    right = no-reason sequence t values (off _ (refused 14 0) refl (passes .1 .1 .1 .0))
 
     sit-ok : AllSit given-rows
     sit-ok = sit-given t values 0 (rowCount t) (λ j l c. right .each j (omega arith) .stand)
@@ -135,12 +135,12 @@ module _ (b : Book) (fine : sound b ≡ true) (k typ teid sequence : ℕ) (t val
     unfolding buildChecks AllPass
     room-ok =
         neither (ltb largestMessage (builtLength b k typ teid sequence t values)) (ltb room (builtLength b k typ teid sequence t values))
-        (off (tooLarge b k typ teid sequence t values room) (refused 15 0) refl (passes .1 .1 .1 .0))
+        (off (tooLarge b k typ teid sequence t values room) (refused 15 0) refl (passes .1 .1 .1 .1 .0))
 
     -- it is accepted with every row kept
     pub build-accepted : acceptedWhole b k made ≡ true
     unfolding buildChecks AllPass
-    build-accepted = not-false (acceptedWhole b k made) (off (not (acceptedWhole b k made)) (refused 16 0) refl (passes .1 .1 .1 .1 .0))
+    build-accepted = not-false (acceptedWhole b k made) (off (not (acceptedWhole b k made)) (refused 16 0) refl (passes .1 .1 .1 .1 .1 .0))
 
     -- and its rows are the rows given: parents, types, last header octets, and the values of those that are no group
     pub build-rows : pieces made (items b k made) ≡ given-rows

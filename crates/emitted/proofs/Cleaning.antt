@@ -171,6 +171,7 @@ module _ (b : Book) (fine : sound b ≡ true) (k : ℕ) (m : List ℕ) (p : Pass
     no-p = p .no-p;
     length-right = written-length (octet m 0) (octet m 1) front (grown (run .forest));
     listed = p .listed;
+    on-kind = p .on-kind;
     t-right = p .t-right;
   }
 

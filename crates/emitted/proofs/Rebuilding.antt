@@ -254,10 +254,13 @@ module _ (b : Book) (fine : sound b ≡ true) (k : ℕ) (m : List ℕ) (o : Octe
         (
           passing _ (refused 7 0) refl (rw (passed .listed)),
           (
-            passing _ (refused 14 0) refl (none-holds (sequenceOf m) table m own-right),
+            passing _ (refused 21 0) refl (rw (passed .on-kind)),
             (
-              passing _ (refused 15 0) refl (rw (built-length, le-ltb largestMessage (length m) (passed .most)) (le-ltb room (length m) l)),
-              (passing _ (refused 16 0) refl (rw (rebuilt, ok)), tt),
+              passing _ (refused 14 0) refl (none-holds (sequenceOf m) table m own-right),
+              (
+                passing _ (refused 15 0) refl (rw (built-length, le-ltb largestMessage (length m) (passed .most)) (le-ltb room (length m) l)),
+                (passing _ (refused 16 0) refl (rw (rebuilt, ok)), tt),
+              ),
             ),
           ),
         ),

@@ -60,7 +60,10 @@ passes b k m p = (
           un-check _ (refused 5 0) refl (p .no-p),
           (
             un-check _ (refused 6 67) refl (rw (eq-eqb (lengthField m + 4) (length m) (p .length-right))),
-            (un-check _ (refused 7 0) refl (rw (p .listed)), (un-check _ (refused 8 0) refl (rw (p .t-right, same-beq (messageOf b (messageType m) .teid))), tt)),
+            (
+              un-check _ (refused 7 0) refl (rw (p .listed)),
+              (un-check _ (refused 21 0) refl (rw (p .on-kind)), (un-check _ (refused 8 0) refl (rw (p .t-right, same-beq (messageOf b (messageType m) .teid))), tt)),
+            ),
           ),
         ),
       ),

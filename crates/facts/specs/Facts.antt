@@ -12,13 +12,13 @@ use Rattle.rules.specs.Covered.{isAside}
 -- ---- least lengths
 
 unfoldable pub below79 : ℕ → ℕ
-below79 t = cond (eqb t 72) 8 (cond (eqb t 2) 2 1)
+below79 t = cond (eqb t 72) 8 (cond (eqb t 2) 2 (cond (eqb t 74) 4 1))
 
 unfoldable pub between : ℕ → ℕ
 between t = cond (eqb t 93) 0 (cond (eqb t 80) 22 (cond (eqb t 81) 21 (cond (eqb t 83) 3 (cond (eqb t 94) 4 (cond (eqb t 95) 2 1)))))
 
 unfoldable pub above95 : ℕ → ℕ
-above95 t = cond (eqb t 180) 0 (cond (eqb t 183) 4 (cond (eqb t 170) 4 (cond (eqb t 114) 2 (cond (eqb t 255) 2 1))))
+above95 t = cond (eqb t 180) 0 (cond (eqb t 109) 0 (cond (eqb t 183) 4 (cond (eqb t 170) 4 (cond (eqb t 114) 2 (cond (eqb t 255) 2 1)))))
 
 -- three ranges: below 79, 79 to 95, above 95
 unfoldable pub byRange : ℕ → ℕ → ℕ → ℕ → ℕ

@@ -23,16 +23,16 @@ const FACTS: [u8; 64] = [
     0,
     0,
     0,
-    64, // 75
+    80, // 74, 75
     145, // 76, 78, 79
     0,
     32, // 86
     0,
     12, // 93
     0,
-    0,
-    0,
-    0,
+    64, // 103
+    85, // 104 to 107
+    13, // 108, 109
     0,
     0,
     0,
@@ -125,6 +125,9 @@ pub(crate) fn below_79(typ: u8) -> usize
     if typ == 2 {
         return 2;
     }
+    if typ == 74 {
+        return 4;
+    }
     1
 }
 
@@ -158,6 +161,9 @@ pub(crate) fn above_95(typ: u8) -> usize
     ensures { λ r. ⌜ Figure (above95 typ) r ⌝ }
 {
     if typ == 180 {
+        return 0;
+    }
+    if typ == 109 {
         return 0;
     }
     if typ == 183 {

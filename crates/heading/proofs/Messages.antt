@@ -11,6 +11,7 @@ use lib.Dec.{eqb, ltb}
 use lib.ListN.{length, getD, drop, List·getD-map}
 use lib.Seq.{drop-cons}
 use Rattle.rules.specs.Framing.{flagT, headerLength}
+use Rattle.rules.specs.Types.{among}
 use Rattle.rules.specs.Listings.{Message, noMessage, messages, book, seekMessage, isMessage, messageOf}
 use Rattle.rules.specs.Sound.{everyLevel, everyMessage, sound}
 use Rattle.rules.proofs.Lines.{and-left, and-right}
@@ -25,6 +26,9 @@ module _ (xs : List Message) where
   abbrev pub teidsOf : List Bool
   teidsOf = map (λ (x : Message). x .teid) xs
 
+  abbrev pub sentOn : ℕ → List Bool
+  sentOn k = map (λ (x : Message). among k (x .kinds)) xs
+
   abbrev pub bodiesOf : List ℕ
   bodiesOf = map (λ (x : Message). x .body) xs
 
@@ -33,6 +37,9 @@ typ-at xs n = List·getD-map (λ (x : Message). x .typ) xs n noMessage
 
 pub teid-at : (xs : List Message) (n : ℕ) → getD (teidsOf xs) n false ≡ getD xs n noMessage .teid
 teid-at xs n = List·getD-map (λ (x : Message). x .teid) xs n noMessage
+
+pub sent-at : (k : ℕ) (xs : List Message) (n : ℕ) → getD (sentOn xs k) n false ≡ among k (getD xs n noMessage .kinds)
+sent-at k xs n = List·getD-map (λ (x : Message). among k (x .kinds)) xs n noMessage
 
 pub body-at : (xs : List Message) (n : ℕ) → getD (bodiesOf xs) n 0 ≡ getD xs n noMessage .body
 body-at xs n = List·getD-map (λ (x : Message). x .body) xs n noMessage
@@ -50,7 +57,7 @@ module _ (xs : List Message) (n t : ℕ) (h : n < length xs) where
 
 -- ---- these messages
 
-pub count : length (book .messages) ≡ 9
+pub count : length (book .messages) ≡ 10
 unfolding book messages
 count = refl
 

@@ -5,6 +5,7 @@ use mathlib.Core.List.{List}
 use Prim.Native.Nat.{ℕ, _≤_, _<_}
 use lib.ListN.{length}
 use Rattle.rules.specs.Framing.{messageType, lengthField, headerLength}
+use Rattle.rules.specs.Types.{among}
 use Rattle.rules.specs.Listings.{Message, book, seekMessage, isMessage, messageOf}
 use Rattle.rules.specs.Taking.{bodyLevel}
 use Rattle.rules.proofs.Rows.{Octets}
@@ -17,6 +18,16 @@ pub record Opens (head : List ℕ) (n : ℕ) : Type 0 where
 pub record Sought (t r : ℕ) : Type 0 where
   pub is : r ≡ seekMessage (book .messages) t
   pub most : r ≤ length (book .messages)
+
+-- a kind, and the number of a type
+pub record Sent (kind n : ℕ) : Type 0 where
+  pub kind-is : among kind (book .kinds) ≡ true
+  pub listed : n < length (book .messages)
+
+-- a kind, and a type that is listed
+pub record Known (kind typ : ℕ) : Type 0 where
+  pub kind-is : among kind (book .kinds) ≡ true
+  pub listed : isMessage book typ ≡ true
 
 -- a message with a first octet, and the number of a type
 pub record Typed (head : List ℕ) (n : ℕ) : Type 0 where

@@ -1,4 +1,4 @@
-// The header of a message: checks 1 to 8, where the elements begin, and the level that they are read by. The checks ask for a message's first
+// The header of a message: checks 1 to 8 with 21, where the elements begin, and the level that they are read by. The checks ask for a message's first
 // four octets and its length and no more, so that it does not matter whether the rest is at hand. These are no entry points: a function
 // here may ask for what its callers show.
 ghost use mathlib.Core.Path.{_≡_};
@@ -7,17 +7,32 @@ ghost use Prim.Native.Nat.{_<_, _≤_};
 ghost use lib.ListN.{length, getD};
 ghost use Rattle.rules.specs.Framing.{version, flagP, flagT};
 ghost use Rattle.rules.specs.Types.{among};
-ghost use Rattle.rules.specs.Listings.{book, noMessage};
+ghost use Rattle.rules.specs.Listings.{book, noMessage, messageOf};
 ghost use Rattle.rules.specs.Verdicts.{first, openingChecks};
-ghost use Rattle.heading.specs.Header.{Opens, Sought, Typed, Field, Start, Listed, Body, HeaderOf};
+ghost use Rattle.heading.specs.Header.{Opens, Sought, Sent, Known, Typed, Field, Start, Listed, Body, HeaderOf};
 use rules::Verdict;
 
-// The message types, which of them have T = 1, and the level of each body.
-const TYPES: [u8; 9] = [1, 2, 32, 37, 66, 67, 68, 69, 97];
+// The message types, which of them have T = 1, which are sent on kinds 1 to 3, which on kind 4, and the level of each body.
+const TYPES: [u8; 10] = [1, 2, 32, 37, 66, 67, 68, 69, 97, 131];
 
-const TEIDS: [bool; 9] = [false, false, true, true, true, true, true, true, true];
+const TEIDS: [bool; 10] = [false, false, true, true, true, true, true, true, true, true];
 
-const BODIES: [u8; 9] = [1, 1, 2, 5, 6, 9, 12, 13, 14];
+const GATEWAYS: [bool; 10] = [true, true, true, true, true, true, true, true, true, false];
+
+const MMES: [bool; 10] = [
+    true, // 1 Echo Request
+    true, // 2 Echo Response
+    false, // 32
+    false, // 37
+    false, // 66
+    false, // 67
+    false, // 68
+    false, // 69
+    false, // 97
+    true, // 131 Context Response
+];
+
+const BODIES: [u8; 10] = [1, 1, 2, 5, 6, 9, 12, 13, 14, 16];
 
 // Is it one of the kinds?
 pub fn known(kind: u32) -> bool
@@ -29,7 +44,10 @@ pub fn known(kind: u32) -> bool
     if kind == 2 {
         return true;
     }
-    kind == 3
+    if kind == 3 {
+        return true;
+    }
+    kind == 4
 }
 
 pub(crate) fn version(head: &[u8]) -> u8
@@ -77,13 +95,24 @@ pub(crate) fn seek(typ: u8) -> usize
 {
     let types = TYPES;
     let mut n = 0;
-    while n < 9 {
+    while n < 10 {
         if types[n] == typ {
             return n;
         }
         n += 1;
     }
     n
+}
+
+// Is the message type of number `n` sent on this kind?
+pub(crate) fn right_kind(kind: u32, n: usize) -> bool
+    requires { ⌜ Sent kind n ⌝ }
+    ensures { λ r. ⌜ r ≡ among kind (getD (book .messages) n noMessage .kinds) ⌝ }
+{
+    if kind == 4 {
+        return MMES[n];
+    }
+    GATEWAYS[n]
 }
 
 // Does T stand as the message type of number `n` has it?
@@ -114,7 +143,7 @@ pub fn header_of(typ: u32) -> usize
         return 0;
     }
     let n = seek(typ as u8);
-    if 9 <= n {
+    if 10 <= n {
         return 0;
     }
     if TEIDS[n] {
@@ -123,7 +152,15 @@ pub fn header_of(typ: u32) -> usize
     8
 }
 
-// Checks 1 to 8, in order, of a message of `n` octets that begins with `head`.
+// Is a message of a type that is listed sent on this kind?
+pub fn sent_on(kind: u32, typ: u32) -> bool
+    requires { ⌜ Known kind typ ⌝ }
+    ensures { λ r. ⌜ r ≡ among kind (messageOf book typ .kinds) ⌝ }
+{
+    right_kind(kind, seek(typ as u8))
+}
+
+// Checks 1 to 8, with 21 after 7, in order, of a message of `n` octets that begins with `head`.
 pub fn opening(kind: u32, head: &[u8], n: usize) -> Verdict
     requires { ⌜ Opens (now head) n ⌝ }
     ensures { λ r. ⌜ r ≡ first (openingChecks book kind (now (head .entry)) n) ⌝ }
@@ -150,8 +187,11 @@ pub fn opening(kind: u32, head: &[u8], n: usize) -> Verdict
         return answers::refuse(6, 67);
     }
     let i = seek(head[1]);
-    if 9 <= i {
+    if 10 <= i {
         return answers::refuse(7, 0);
+    }
+    if !right_kind(kind, i) {
+        return answers::refuse(21, 0);
     }
     if !right_t(head, i) {
         return answers::refuse(8, 0);

@@ -4,19 +4,20 @@
 use mathlib.Core.Path.{_≡_, refl, sym, ap, _∙_}
 use mathlib.Core.Bool.{Bool, true, false}
 use mathlib.Core.List.{List, [], _∷_, _++_, append-assoc, append-nil}
-use Prim.Native.Nat.{ℕ, zero, suc, _+_, _*_, _/_, _%_, _≤_}
+use Prim.Native.Nat.{ℕ, zero, suc, _+_, _*_, _/_, _%_, _≤_, _<_}
 use native.Mathlib.Nat.{div-div-eq-div-mul, div-add-mod'}
 use native.Mathlib.Omega.{arith}
 use borrow.Author.Tests.{le-ltb}
 use lib.ListN.{length, getD, drop, length-append}
-use lib.Seq.{getD-at, getD-append-add}
+use lib.Seq.{getD-at, getD-append-add, drop-cons, drop-length}
 use Rattle.taking.specs.declared.Counts.{Counts}
 use Rattle.pieces.specs.declared.Open.{Open}
 use Rattle.pieces.specs.declared.Going.{Going}
 use Rattle.pieces.specs.declared.Pieces.{Pieces}
+use Rattle.pieces.specs.Depth.{deepest}
 use Rattle.pieces.specs.Coded.{noOpen}
-use Rattle.keeping.specs.Kept.{stateSize, fourOf, eightOf, numberOn, numberOf, run, numberAt, flagOf, isFlag, startOctets, countsOctets, walkOctets, watchOctets, openOctets, nth, stateOctets, keptIn, openAt, countsAt, walkIn, fieldsIn, stateIn, Formed}
-use Rattle.keeping.proofs.Storing.{length-run, first, second, length-first, length-second, length-state, kept-is}
+use Rattle.keeping.specs.Kept.{stateSize, fourOf, eightOf, numberOn, numberOf, run, numberAt, flagOf, isFlag, startOctets, countsOctets, walkOctets, watchOctets, openOctets, nth, levelsFrom, levelSize, opensOctets, stateOctets, keptIn, openAt, opensAt, countsAt, walkIn, fieldsIn, stateIn, Formed}
+use Rattle.keeping.proofs.Storing.{length-run, first, length-first, length-open, length-state, kept-is}
 
 -- ---- numbers and bools
 
@@ -132,15 +133,30 @@ pieces-same : (p : Pieces) {k r c : ℕ} {e : Bool} {h : List ℕ} {w : Going}
     → _≡_ {A = Pieces} record { kind = k; room = r; ended = e; count = c; head = h; going = w } p
 pieces-same p k r e c h w = rw (k, r, e, c, h, w)
 
-two : (l : List Open) → length l ≡ 2 → getD l 0 noOpen ∷ getD l 1 noOpen ∷ [] ≡ l
-two [] e = absurd (omega (arith, e))
-two (a ∷ []) e = absurd (omega (arith, e))
-two (a ∷ b ∷ []) e = refl
-two (a ∷ b ∷ c ∷ l) e = absurd (omega (arith, e))
+-- the levels of a state are all that are read
+nths : ℕ → Going → ℕ → List Open
+nths zero w i = []
+nths (suc k) w i = nth w i ∷ nths k w (suc i)
+
+opens-again : (k : ℕ) (w : Going) (i : ℕ) (xs ys : List ℕ) {n : ℕ} → length xs ≡ n → ((j : ℕ) → j < i + k → length (nth w j .marks) ≡ 32) → opensAt k (xs ++ (opensOctets k w i ++ ys)) n ≡ nths k w i
+unfolding opensAt opensOctets nths
+opens-again zero w i xs ys e f = refl
+opens-again (suc k) w i xs ys {n} e f =
+    let o = openOctets (nth w i) in
+    let rest = opensOctets k w (suc i) ++ ys in
+    let inner : opensAt k (xs ++ (o ++ rest)) (n + levelSize) ≡ nths k w (suc i)
+    = ap (λ (s : List ℕ). opensAt k s (n + levelSize)) (sym (append-assoc xs o rest))
+    ∙ opens-again k w (suc i) (xs ++ o) ys (omega (arith, e, length-append xs o, length-open (nth w i))) (λ j l. f j (omega arith)) in
+    rw (append-assoc o (opensOctets k w (suc i)) ys, open-again (nth w i) rest xs n e (f i (omega arith)), inner)
+
+nths-are : (k : ℕ) (w : Going) (i : ℕ) → k + i ≡ length (w .levels) → nths k w i ≡ drop i (w .levels)
+unfolding nths
+nths-are zero w i e = let z : i ≡ length (w .levels) = omega (arith, e) in rw (z, drop-length (w .levels))
+nths-are (suc k) w i e = rw (drop-cons (w .levels) i noOpen (omega arith), nths-are k w (suc i) (omega arith))
 
 module _ (p : Pieces) (f : Formed p) where
   module _ (ys : List ℕ) where
-    walk-again : openAt (first p ++ ys) 135 ∷ openAt (first p ++ ys) 192 ∷ [] ≡ p .going .levels → walkIn (first p ++ ys) ≡ p .going
+    walk-again : opensAt deepest (first p ++ ys) levelsFrom ≡ p .going .levels → walkIn (first p ++ ys) ≡ p .going
     unfolding startOctets walkOctets watchOctets countsOctets fourOf eightOf run countsAt walkIn
     walk-again e =
         let w = p .going in
@@ -152,25 +168,15 @@ module _ (p : Pieces) (f : Formed p) where
     fields-again e =
         pieces-same p (four-again (p .kind)) (eight-again (p .room)) (flag-again (p .ended)) (eight-again (p .count)) (run-whole 4 (p .head) (f .head-four)) e
 
-  whole : (ys : List ℕ) → stateOctets p ++ ys ≡ first p ++ (openOctets (nth (p .going) 0) ++ (openOctets (nth (p .going) 1) ++ ys))
+  whole : (ys : List ℕ) → stateOctets p ++ ys ≡ first p ++ (opensOctets deepest (p .going) 0 ++ ys)
   unfolding stateOctets
-  whole ys = append-assoc (second p) (openOctets (nth (p .going) 1)) ys ∙ append-assoc (first p) (openOctets (nth (p .going) 0)) (openOctets (nth (p .going) 1) ++ ys)
-
-  levels-again : (ys : List ℕ) → openAt (stateOctets p ++ ys) 135 ∷ openAt (stateOctets p ++ ys) 192 ∷ [] ≡ p .going .levels
-  unfolding stateOctets
-  levels-again ys =
-      let outer : openAt (stateOctets p ++ ys) 135 ≡ nth (p .going) 0
-      = ap (λ (s : List ℕ). openAt s 135) (whole ys) ∙ open-again (nth (p .going) 0) (openOctets (nth (p .going) 1) ++ ys) (first p) 135 (length-first p) (f .marks-first) in
-      let inner : openAt (stateOctets p ++ ys) 192 ≡ nth (p .going) 1
-      = ap (λ (s : List ℕ). openAt s 192) (append-assoc (second p) (openOctets (nth (p .going) 1)) ys) ∙ open-again (nth (p .going) 1) ys (second p) 192 (length-second p) (f .marks-second) in
-      ap (λ (o : Open). o ∷ openAt (stateOctets p ++ ys) 192 ∷ []) outer ∙ ap (λ (o : Open). nth (p .going) 0 ∷ o ∷ []) inner ∙ two (p .going .levels) (f .levels-two)
+  whole ys = append-assoc (first p) (opensOctets deepest (p .going) 0) ys
 
   all-again : (ys : List ℕ) → fieldsIn (stateOctets p ++ ys) ≡ p
   all-again ys =
-      let rest : List ℕ = openOctets (nth (p .going) 0) ++ (openOctets (nth (p .going) 1) ++ ys) in
-      let e : openAt (first p ++ rest) 135 ∷ openAt (first p ++ rest) 192 ∷ [] ≡ p .going .levels
-      = ap (λ (s : List ℕ). openAt s 135 ∷ openAt s 192 ∷ []) (sym (whole ys)) ∙ levels-again ys in
-      ap fieldsIn (whole ys) ∙ fields-again rest (walk-again rest e)
+      let rest : List ℕ = opensOctets deepest (p .going) 0 ++ ys in
+      let levels = opens-again deepest (p .going) 0 (first p) ys (length-first p) (f .marks-all) ∙ nths-are deepest (p .going) 0 (sym (f .levels-all)) in
+      ap fieldsIn (whole ys) ∙ fields-again rest (walk-again rest levels)
 
   pub kept-again : (lent : List ℕ) → stateSize ≤ length lent → stateIn (keptIn p lent) ≡ p
   unfolding stateIn
@@ -179,12 +185,22 @@ module _ (p : Pieces) (f : Formed p) where
       let long : stateSize ≤ length (stateOctets p ++ rest) = omega (arith, length-append (stateOctets p) rest, length-state p) in
       rw (kept-is p lent h, le-ltb (length (stateOctets p ++ rest)) stateSize long) (all-again rest)
 
+opens-long : (k : ℕ) (t : List ℕ) (n : ℕ) → length (opensAt k t n) ≡ k
+unfolding opensAt
+opens-long zero t n = refl
+opens-long (suc k) t n = ap suc (opens-long k t (n + levelSize))
+
+marks-long : (k : ℕ) (t : List ℕ) (n i : ℕ) → i < k → length (getD (opensAt k t n) i noOpen .marks) ≡ 32
+unfolding opensAt openAt
+marks-long zero t n i l = absurd (omega arith)
+marks-long (suc k) t n zero l = length-run 32 t (n + 1)
+marks-long (suc k) t n (suc i) l = marks-long k t (n + levelSize) i (omega arith)
+
 pub formed : (s : List ℕ) → Formed (stateIn s)
-unfolding stateIn fieldsIn walkIn openAt
+unfolding stateIn fieldsIn walkIn
 formed s = record {
   head-four = length-run 4 _ 21;
   some-four = length-run 4 _ 50;
-  levels-two = refl;
-  marks-first = length-run 32 _ (135 + 1);
-  marks-second = length-run 32 _ (192 + 1);
+  levels-all = opens-long deepest _ levelsFrom;
+  marks-all = λ i l. marks-long deepest _ levelsFrom i l;
 }

@@ -4,8 +4,8 @@
 --     start-set, counts-set, walk-set, watch-set, open-set   the parts of a state
 --     unkept, state-kept                                     a state, or nothing
 use mathlib.Core.Path.{_≡_, refl, sym, ap, _∙_}
-use mathlib.Core.List.{List, [], _∷_, _++_, append-nil}
-use Prim.Native.Nat.{ℕ, zero, suc, _+_, _/_, _%_, _≤_, _<_}
+use mathlib.Core.List.{List, [], _∷_, _++_, append-nil, append-assoc}
+use Prim.Native.Nat.{ℕ, zero, suc, _+_, _*_, _/_, _%_, _≤_, _<_}
 use native.Mathlib.Omega.{arith}
 use native.Mathlib.Numerals.{add-one, unary-clauses}
 use borrow.Author.Tests.{lt-ltb, le-ltb}
@@ -16,7 +16,8 @@ use Rattle.taking.specs.declared.Counts.{Counts}
 use Rattle.pieces.specs.declared.Open.{Open}
 use Rattle.pieces.specs.declared.Going.{Going}
 use Rattle.pieces.specs.declared.Pieces.{Pieces}
-use Rattle.keeping.specs.Kept.{stateSize, nth, stateOctets, keptIn, flagOf, fourOf, eightOf, run, startOctets, countsOctets, walkOctets, watchOctets, openOctets}
+use Rattle.pieces.specs.Depth.{deepest}
+use Rattle.keeping.specs.Kept.{levelsFrom, levelSize, stateSize, nth, opensOctets, stateOctets, keptIn, flagOf, fourOf, eightOf, run, startOctets, countsOctets, walkOctets, watchOctets, openOctets}
 
 pub run-four : (s : List ℕ) (n : ℕ) → getD s n 0 ∷ getD s (n + 1) 0 ∷ getD s (n + 2) 0 ∷ getD s (n + 3) 0 ∷ [] ≡ run 4 s n
 unfolding run
@@ -129,19 +130,36 @@ module _ (l : List ℕ) where
         sets-join l n (one ++ eightOf (o .parent) ++ eightOf (o .home)) (eightOf (o .left)) {m = n + 49} (omega (arith, at, length-append one (eightOf (o .parent)), length-append (one ++ eightOf (o .parent)) (eightOf (o .home)))),
       )
 
-length-open : (o : Open) → length (openOctets o) ≡ 57
+pub length-open : (o : Open) → length (openOctets o) ≡ 57
 unfolding openOctets eightOf
 length-open o = simp length-append (omega (arith, length-run 32 (o .marks) 0))
 
--- what stands before the watch, before the levels, and with the outer one
+pub length-opens : (k : ℕ) (w : Going) (i : ℕ) → length (opensOctets k w i) ≡ k * levelSize
+unfolding opensOctets
+length-opens zero w i = refl
+length-opens (suc k) w i =
+    omega (arith, length-append (openOctets (nth w i)) (opensOctets k w (suc i)), length-open (nth w i), length-opens k w (suc i))
+
+-- one level after another, from place n on, is all of them
+abbrev setOpens : ℕ → Going → List ℕ → ℕ → ℕ → List ℕ
+setOpens zero w l n i = l
+setOpens (suc k) w l n i = setOpens k w (sets l n (openOctets (nth w i))) (n + levelSize) (suc i)
+
+opens-set : (k : ℕ) (w : Going) (l xs : List ℕ) (i : ℕ) {n : ℕ} → n ≡ length xs → setOpens k w (sets l 0 xs) n i ≡ sets l 0 (xs ++ opensOctets k w i)
+unfolding opensOctets
+opens-set zero w l xs i e = ap (sets l 0) (sym (append-nil xs))
+opens-set (suc k) w l xs i {n} e =
+    let o = openOctets (nth w i) in
+    ap (λ (j : List ℕ). setOpens k w j (n + levelSize) (suc i)) (sets-join l 0 xs o (omega (arith, e)))
+    ∙ opens-set k w l (xs ++ o) (suc i) (omega (arith, length-append xs o, length-open (nth w i)))
+    ∙ ap (sets l 0) (append-assoc xs o (opensOctets k w (suc i)))
+
+-- what stands before the watch, and before the levels
 abbrev walked : Pieces → List ℕ
 walked p = startOctets p ++ walkOctets (p .going)
 
 abbrev pub first : Pieces → List ℕ
 first p = walked p ++ watchOctets (p .going)
-
-abbrev pub second : Pieces → List ℕ
-second p = first p ++ openOctets (nth (p .going) 0)
 
 module _ (p : Pieces) where
   length-start : length (startOctets p) ≡ 25
@@ -152,16 +170,13 @@ module _ (p : Pieces) where
   unfolding startOctets walkOctets countsOctets fourOf eightOf run
   length-walked = refl
 
-  pub length-first : length (first p) ≡ 135
+  pub length-first : length (first p) ≡ levelsFrom
   unfolding startOctets walkOctets watchOctets countsOctets fourOf eightOf run
   length-first = refl
 
-  pub length-second : length (second p) ≡ 192
-  length-second = omega (arith, length-append (first p) (openOctets (nth (p .going) 0)), length-first, length-open (nth (p .going) 0))
-
   pub length-state : length (stateOctets p) ≡ stateSize
   unfolding stateOctets
-  length-state = omega (arith, length-append (second p) (openOctets (nth (p .going) 1)), length-second, length-open (nth (p .going) 1))
+  length-state = omega (arith, length-append (first p) (opensOctets deepest (p .going) 0), length-first, length-opens deepest (p .going) 0)
 
   module _ (l : List ℕ) where
     pub unkept : length l < stateSize → l ≡ keptIn p l
@@ -173,14 +188,13 @@ module _ (p : Pieces) where
     kept-is h = rw (le-ltb (length l) stateSize h, length-state)
 
     pub state-kept : stateSize ≤ length l
-        → sets (sets (sets (sets (sets l 0 (startOctets p)) 25 (walkOctets (p .going))) 94 (watchOctets (p .going))) 135 (openOctets (nth (p .going) 0))) 192 (openOctets (nth (p .going) 1)) ≡ keptIn p l
+        → setOpens deepest (p .going) (sets (sets (sets l 0 (startOctets p)) 25 (walkOctets (p .going))) 94 (watchOctets (p .going))) levelsFrom 0 ≡ keptIn p l
     unfolding stateOctets
     state-kept h =
         let size : 0 + length (stateOctets p) ≡ stateSize = omega (arith, length-state) in
         rw (
           sets-join l 0 (startOctets p) (walkOctets (p .going)) {m = 25} (omega (arith, length-start)),
           sets-join l 0 (walked p) (watchOctets (p .going)) {m = 94} (omega (arith, length-walked)),
-          sets-join l 0 (first p) (openOctets (nth (p .going) 0)) {m = 135} (omega (arith, length-first)),
-          sets-join l 0 (second p) (openOctets (nth (p .going) 1)) {m = 192} (omega (arith, length-second)),
+          opens-set deepest (p .going) l (first p) 0 {n = levelsFrom} (omega (arith, length-first)),
         )
         (sets-eq (stateOctets p) l 0 (omega (arith, size)) ∙ ap (λ (n : ℕ). stateOctets p ++ drop n l) size ∙ sym (kept-is h))

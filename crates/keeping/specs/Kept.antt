@@ -11,10 +11,18 @@ use Rattle.taking.specs.declared.Counts.{Counts}
 use Rattle.pieces.specs.declared.Open.{Open}
 use Rattle.pieces.specs.declared.Going.{Going}
 use Rattle.pieces.specs.declared.Pieces.{Pieces}
+use Rattle.pieces.specs.Depth.{deepest}
 use Rattle.pieces.specs.Coded.{noOpen}
 
+-- the octets before the levels, and those of a level
+abbrev pub levelsFrom : ℕ
+levelsFrom = 135
+
+abbrev pub levelSize : ℕ
+levelSize = 57
+
 abbrev pub stateSize : ℕ
-stateSize = 249
+stateSize = levelsFrom + deepest * levelSize
 
 -- ---- numbers, bools and arrays
 
@@ -82,8 +90,13 @@ openOctets o = o .level ∷ [] ++ run 32 (o .marks) 0 ++ eightOf (o .parent) ++ 
 abbrev pub nth : Going → ℕ → Open
 nth w i = getD (w .levels) i noOpen
 
+-- the k levels from number i on
+unfoldable pub opensOctets : ℕ → Going → ℕ → List ℕ
+opensOctets zero w i = []
+opensOctets (suc k) w i = openOctets (nth w i) ++ opensOctets k w (suc i)
+
 unfoldable pub stateOctets : Pieces → List ℕ
-stateOctets p = startOctets p ++ walkOctets (p .going) ++ watchOctets (p .going) ++ openOctets (nth (p .going) 0) ++ openOctets (nth (p .going) 1)
+stateOctets p = (startOctets p ++ walkOctets (p .going) ++ watchOctets (p .going)) ++ opensOctets deepest (p .going) 0
 
 -- a buffer that is too short is left alone; octets past the state's stay
 unfoldable pub keptIn : Pieces → List ℕ → List ℕ
@@ -94,6 +107,11 @@ keptIn p lent = cond (ltb (length lent) stateSize) lent (laid (stateOctets p) le
 unfoldable pub openAt : List ℕ → ℕ → Open
 openAt s n = record { level = getD s n 0; marks = run 32 s (n + 1); parent = numberAt s (n + 33); home = numberAt s (n + 41); left = numberAt s (n + 49) }
 
+-- k levels, one after another
+unfoldable pub opensAt : ℕ → List ℕ → ℕ → List Open
+opensAt zero s n = []
+opensAt (suc k) s n = openAt s n ∷ opensAt k s (n + levelSize)
+
 unfoldable pub countsAt : List ℕ → ℕ → Counts
 countsAt s n = record { rows = numberAt s n; kept = numberAt s (n + 8); short = numberAt s (n + 16); gap = numberAt s (n + 24) }
 
@@ -101,7 +119,7 @@ unfoldable pub walkIn : List ℕ → Going
 walkIn s = record {
   stopped = isFlag (getD s 25 0);
   depth = numberAt s 26;
-  levels = openAt s 135 ∷ openAt s 192 ∷ [];
+  levels = opensAt deepest s levelsFrom;
   place = numberAt s 34;
   have = numberAt s 42;
   some = run 4 s 50;
@@ -124,6 +142,5 @@ stateIn s = fieldsIn (cond (ltb (length s) stateSize) (replicate stateSize 0) s)
 pub record Formed (p : Pieces) : Type 0 where
   pub head-four : length (p .head) ≡ 4
   pub some-four : length (p .going .some) ≡ 4
-  pub levels-two : length (p .going .levels) ≡ 2
-  pub marks-first : length (nth (p .going) 0 .marks) ≡ 32
-  pub marks-second : length (nth (p .going) 1 .marks) ≡ 32
+  pub levels-all : length (p .going .levels) ≡ deepest
+  pub marks-all : (i : ℕ) → i < deepest → length (nth (p .going) i .marks) ≡ 32

@@ -11,7 +11,7 @@ use pieces::Pieces;
 use taking::Counts;
 
 // How many octets a state has.
-pub const SIZE: usize = 249;
+pub const SIZE: usize = 306;
 
 // ---- a state into octets
 
@@ -150,11 +150,13 @@ pub fn keep(p: Pieces, state: &mut [u8])
     let w = p.going;
     let outer = w.levels[0];
     let inner = w.levels[1];
+    let innermost = w.levels[2];
     put_start(p, state);
     put_walk(w, state);
     put_watch(w, state);
     put_open(outer, 135, state);
     put_open(inner, 192, state);
+    put_open(innermost, 249, state);
 }
 
 // ---- octets into a state
@@ -237,7 +239,8 @@ fn walk_in(s: &[u8]) -> Going
 {
     let outer = open_at(s, 135);
     let inner = open_at(s, 192);
-    let levels = [outer, inner];
+    let innermost = open_at(s, 249);
+    let levels = [outer, inner, innermost];
     let some = four_at(s, 50);
     let counts = counts_at(s, 62);
     let back = counts_at(s, 103);

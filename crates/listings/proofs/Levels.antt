@@ -111,11 +111,11 @@ module _ (b : Book) (v : ℕ) (h : v < length (b .levels)) where
 
 -- ---- these listings
 
-pub depth : length (book .levels) ≡ 16
+pub depth : length (book .levels) ≡ 19
 unfolding book levels
 depth = refl
 
-pub size : length (numbersOf book) ≡ 113
+pub size : length (numbersOf book) ≡ 145
 unfolding book levels skipped entryOf entriesOf joined begins numbersOf
 size = refl
 

@@ -12,7 +12,7 @@ use Rattle.rules.specs.Sound.{isFree}
 -- ---- a line as one number
 --
 --     13 bits   the pair: its type, and its instance in five bits, which hold that of every instance too
---      1 bit    mandatory          1 bit    may repeat          1 bit each    listed on kind 1, 2, 3, and one to spare
+--      1 bit    mandatory          1 bit    may repeat          1 bit each    listed on kind 1, 2, 3, 4
 --      5 bits   how many lines stand between it and the next mandatory line
 --      7 bits   the level of its inside          1 bit    what that holds has limits
 
@@ -35,6 +35,7 @@ entryOf l skip =
     + 32768 * bit (among 1 (l .kinds))
     + 65536 * bit (among 2 (l .kinds))
     + 131072 * bit (among 3 (l .kinds))
+    + 262144 * bit (among 4 (l .kinds))
     + 524288 * skip
     + 16777216 * l .inside
     + 2147483648 * bit (not (isFree l))
@@ -55,9 +56,9 @@ mustIn x = eqb (x / 8192 % 2) 1
 abbrev pub manyIn : ℕ → Bool
 manyIn x = eqb (x / 16384 % 2) 1
 
--- on kind 1, on kind 2, and on any other
+-- on kind 1, on kind 2, on kind 3, and on any other
 unfoldable pub onIn : ℕ → ℕ → Bool
-onIn k x = cond (eqb k 1) (eqb (x / 32768 % 2) 1) (cond (eqb k 2) (eqb (x / 65536 % 2) 1) (eqb (x / 131072 % 2) 1))
+onIn k x = cond (eqb k 1) (eqb (x / 32768 % 2) 1) (cond (eqb k 2) (eqb (x / 65536 % 2) 1) (cond (eqb k 3) (eqb (x / 131072 % 2) 1) (eqb (x / 262144 % 2) 1)))
 
 abbrev pub skipIn : ℕ → ℕ
 skipIn x = x / 524288 % 32

@@ -253,6 +253,7 @@ texts =
     named kinds 1 "S11"
     ∷ named kinds 2 "S4"
     ∷ named kinds 3 "S5/S8"
+    ∷ named kinds 4 "S10"
     ∷ named kinds every "no known interface"
     ∷ named standings 0 "kept"
     ∷ named standings 1 "not listed"
@@ -269,13 +270,14 @@ texts =
     ∷ named counts 1 "row"
     ∷ named counts every "rows"
     ∷ sentence verdicts 0 (say "accepted: " ∷ rowCount ∷ say " " ∷ rowWord ∷ say ", " ∷ keptCount ∷ say " kept\n" ∷ [])
-    ∷ refusal 1 (say ": kind not 1 to 3" ∷ [])
+    ∷ refusal 1 (say ": kind not 1 to 4" ∷ [])
     ∷ refusal 2 (say ": message empty or over 4,096 octets" ∷ [])
     ∷ refusal 3 (say ": version " ∷ version ∷ say ", not 2" ∷ [])
     ∷ refusal 4 (say ": its header has " ∷ headerSize ∷ say " octets, the message has " ∷ size ∷ [])
     ∷ refusal 5 (say ": P is set: a second message follows" ∷ [])
     ∷ refusal 6 (say ": the header says " ∷ over ∷ claim ∷ say " octets, the message has " ∷ size ∷ [])
     ∷ refusal 7 (say ": message type " ∷ messageType ∷ say " " ∷ message ∷ say " is not handled" ∷ [])
+    ∷ refusal 21 (say ": message type " ∷ messageType ∷ say " " ∷ message ∷ say " is not handled on " ∷ kind ∷ [])
     ∷ refusal 8 (say ": T is " ∷ flag ∷ say ", not " ∷ otherFlag ∷ say " as in message type " ∷ messageType ∷ say " " ∷ message ∷ [])
     ∷ refusal 9 (say ": octet " ∷ place ∷ say ": " ∷ reason ∷ [])
     ∷ refusal 11 (say ": a mandatory element is short, at octet " ∷ place ∷ say ": " ∷ typ ∷ say " " ∷ name ∷ say ", instance " ∷ inst ∷ [])

@@ -4,10 +4,11 @@ ghost use mathlib.Core.Path.{_≡_};
 ghost use Rattle.phrases.specs.Texts.{joined, keysOf, lengthsOf};
 ghost use Rattle.phrases.specs.Table.{texts, slots};
 
-const OCTETS: [u8; 4428] = *b"\
+const OCTETS: [u8; 4489] = *b"\
     S11\
     S4\
     S5/S8\
+    S10\
     no known interface\
     kept\
     not listed\
@@ -24,13 +25,14 @@ const OCTETS: [u8; 4428] = *b"\
     row\
     rows\
     accepted: \x8d \x8e, \x8f kept\n\
-    refused by check \x85: kind not 1 to 3\x86\n\
+    refused by check \x85: kind not 1 to 4\x86\n\
     refused by check \x85: message empty or over 4,096 octets\x86\n\
     refused by check \x85: version \x90, not 2\x86\n\
     refused by check \x85: its header has \x91 octets, the message has \x81\x86\n\
     refused by check \x85: P is set: a second message follows\x86\n\
     refused by check \x85: the header says \x92\x93 octets, the message has \x81\x86\n\
     refused by check \x85: message type \x84 \x83 is not handled\x86\n\
+    refused by check \x85: message type \x84 \x83 is not handled on \x80\x86\n\
     refused by check \x85: T is \x94, not \x95 as in message type \x84 \x83\x86\n\
     refused by check \x85: octet \x87: \x96\x86\n\
     refused by check \x85: a mandatory element is short, at octet \x87: \x8a \x8b, instance \x8c\x86\n\
@@ -179,10 +181,11 @@ const OCTETS: [u8; 4428] = *b"\
     For future use\
     ";
 
-const KEYS: [u16; 172] = [
+const KEYS: [u16; 174] = [
     1,
     2,
     3,
+    4,
     255,
     512,
     513,
@@ -206,6 +209,7 @@ const KEYS: [u16; 172] = [
     1797,
     1798,
     1799,
+    1813,
     1800,
     1801,
     1803,
@@ -354,10 +358,11 @@ const KEYS: [u16; 172] = [
     511,
 ];
 
-const LENGTHS: [u16; 172] = [
+const LENGTHS: [u16; 174] = [
     3,
     2,
     5,
+    3,
     18,
     4,
     10,
@@ -381,6 +386,7 @@ const LENGTHS: [u16; 172] = [
     56,
     66,
     53,
+    58,
     58,
     32,
     79,
@@ -668,19 +674,19 @@ const SLOTS: [u8; 136] = [
     2,
 ];
 
-pub(crate) fn octets() -> [u8; 4428]
+pub(crate) fn octets() -> [u8; 4489]
     ensures { λ r. ⌜ r ≡ joined texts ⌝ }
 {
     OCTETS
 }
 
-pub(crate) fn keys() -> [u16; 172]
+pub(crate) fn keys() -> [u16; 174]
     ensures { λ r. ⌜ r ≡ keysOf texts ⌝ }
 {
     KEYS
 }
 
-pub(crate) fn lengths() -> [u16; 172]
+pub(crate) fn lengths() -> [u16; 174]
     ensures { λ r. ⌜ r ≡ lengthsOf texts ⌝ }
 {
     LENGTHS

@@ -6,7 +6,7 @@ use Prim.Native.Nat.{ℕ, zero, suc, _+_, _-_, _≤_, _<_}
 use native.Mathlib.Omega.{arith}
 use borrow.Author.Tests.{ltb-true, ltb-false, eqb-true, eqb-false, not-false}
 use lib.Dec.{eqb, ltb}
-use lib.ListN.{length}
+use lib.ListN.{length, replicate}
 use Rattle.rules.specs.Sizes.{largestMessage}
 use Rattle.rules.specs.Framing.{version, flagP, flagT, messageType, lengthField, headerLength}
 use Rattle.rules.specs.Types.{among}
@@ -59,6 +59,10 @@ level-low h e = body-level (seekMessage (book .messages) (messageType h)) (liste
 none : Slot blankOpen
 none = record { level = omega (arith, depth); parent = omega arith; home = omega arith }
 
+nones : (n : ℕ) → EachSlot (replicate n blankOpen)
+nones zero = tt
+nones (suc n) = (none, nones n)
+
 pub idle-fits : (k : ℕ) (c : Counts) → Few c 0 → Fits k (idleBy c)
 unfolding idleBy
 idle-fits k c f = record {
@@ -67,7 +71,7 @@ idle-fits k c f = record {
     bytes = refl;
     deep = omega arith;
     have = omega arith;
-    each = (none, (none, tt));
+    each = nones deepest;
     ends = omega arith;
     few = f;
     owns = omega arith;
@@ -87,7 +91,7 @@ entry-sized k h x = record {
   bytes = refl;
   deep = omega arith;
   have = omega arith;
-  each = (record { level = level-low h (x .listed); parent = omega arith; home = omega arith }, (none, tt));
+  each = (record { level = level-low h (x .listed); parent = omega arith; home = omega arith }, nones (deepest - 1));
   ends = omega (arith, x .most, x .has-header);
   few = few-none (headerLength h);
   owns = omega arith;

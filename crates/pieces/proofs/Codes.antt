@@ -43,7 +43,7 @@ number-among (n ∷ ns) (suc j) l = right (eqb (getD ns j 0) n) (number-among ns
     right true e = refl
     right false e = e
 
-many : (k : ℕ) (m : List ℕ) (room : ℕ) → length (judgeChecks book k m room) ≡ 12
+many : (k : ℕ) (m : List ℕ) (room : ℕ) → length (judgeChecks book k m room) ≡ length judgeNumbers
 unfolding judgeChecks framingChecks headerChecks
 many k m room = refl
 
@@ -52,4 +52,4 @@ judge-one-of k m room = go (first-own (judgeChecks book k m room))
   where
     go : AllPass (judgeChecks book k m room) ⊎ ((j : ℕ) × (j < length (judgeChecks book k m room)) × OwnCase (judgeChecks book k m room) j) → OneOf judgeNumbers (judgeVerdict book k m room)
     go (inl a) = inl (first-pass (judgeChecks book k m room) a)
-    go (inr x) = let l : x .0 < 12 = omega (arith, x .1, many k m room) in inr (rw (judge-case book k m room (x .0) l .1 (x .2)) (number-among judgeNumbers (x .0) l))
+    go (inr x) = let l : x .0 < length judgeNumbers = omega (arith, x .1, many k m room) in inr (rw (judge-case book k m room (x .0) l .1 (x .2)) (number-among judgeNumbers (x .0) l))

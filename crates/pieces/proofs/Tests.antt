@@ -20,7 +20,7 @@ use Rattle.pieces.specs.declared.Going.{Going}
 use Rattle.pieces.specs.Depth.{deepest}
 use Rattle.pieces.specs.Coded.{noOpen, topOf}
 use Rattle.pieces.specs.Fits.{Slot, EachSlot, lefts, Sized, Waiting, Fits}
-use Rattle.pieces.specs.Answers.{slotFits, backFits, waits, walkFits}
+use Rattle.pieces.specs.Answers.{slotFits, slotsFit, backFits, waits, walkFits}
 use Rattle.pieces.proofs.Fits.{slot-at, left-most}
 
 both : (a b : Bool) → a ≡ true → b ≡ true → a && b ≡ true
@@ -36,6 +36,21 @@ slot-is f e =
 is-slot : (f : Open) → Slot f → f .left ≤ largestMessage → slotFits f ≡ true
 unfolding slotFits
 is-slot f s l = rw (lt-ltb (f .level) (length (book .levels)) (s .level), le-leb (f .parent) 4096 (s .parent), le-leb (f .home) 4096 (s .home), le-leb (f .left) 4096 l)
+
+-- the levels, from a place on
+slots-are : (at : ℕ) (fs : List Open) → at ≤ largestMessage → slotsFit at fs ≡ true → EachSlot fs × (at + lefts fs ≤ largestMessage)
+unfolding slotsFit
+slots-are at [] l e = (tt, omega arith)
+slots-are at (f ∷ fs) l e =
+    let r = and-right (slotFits f) _ e in
+    let t = slots-are (at + f .left) fs (leb-true _ _ (and-left (leb (at + f .left) largestMessage) _ r)) (and-right (leb (at + f .left) largestMessage) _ r) in
+    ((slot-is f (and-left (slotFits f) _ e), t .0), omega (arith, t .1))
+
+are-slots : (at : ℕ) (fs : List Open) → EachSlot fs → at + lefts fs ≤ largestMessage → slotsFit at fs ≡ true
+unfolding slotsFit
+are-slots at [] e l = refl
+are-slots at (f ∷ fs) e l =
+    rw (is-slot f (e .0) (omega arith), le-leb (at + f .left) 4096 (omega arith), are-slots (at + f .left) fs (e .1) (omega arith))
 
 back-is : (back : Counts) (rows apns : ℕ) → backFits back rows apns ≡ true → (back .rows + apns ≤ rows) × (back .kept ≤ back .rows)
 unfolding backFits
@@ -73,20 +88,11 @@ module _ (k : ℕ) (w : Going) where
           let t = f ea (pos-of-ne-zero (eqb-false _ _ eb)) (eqb-true _ _ ec) in
           rw (ne-eqb (valueLength (w .some)) 0 (λ z. omega (arith, t .some)), le-leb (elementHeader + valueLength (w .some)) (topOf w .left) (t .room))
 
-  two : (fs : List Open) → length fs ≡ 2 → Slot (getD fs 0 noOpen) → Slot (getD fs 1 noOpen) → EachSlot fs × (lefts fs ≡ getD fs 0 noOpen .left + getD fs 1 noOpen .left)
-  two [] l a b = absurd (omega arith)
-  two (f ∷ []) l a b = absurd (omega arith)
-  two (f ∷ g ∷ []) l a b = ((a, (b, tt)), omega arith)
-  two (f ∷ g ∷ h ∷ fs) l a b = absurd (omega arith)
-
   pub test-fits : length (w .levels) ≡ deepest → length (w .some) ≡ 4 → walkFits k w ≡ true → Fits k w
   unfolding walkFits
   test-fits l n e =
-      let s0 = slotFits (getD (w .levels) 0 noOpen) in
-      let e1 = and-right s0 _ e in
-      let e2 = and-right (slotFits (getD (w .levels) 1 noOpen)) _ e1 in
-      let e3 = and-right (leb (w .place) largestMessage) _ e2 in
-      let e4 = and-right (leb (w .place + (getD (w .levels) 0 noOpen .left + getD (w .levels) 1 noOpen .left)) largestMessage) _ e3 in
+      let e3 = and-right (leb (w .place) largestMessage) _ e in
+      let e4 = and-right (slotsFit (w .place) (w .levels)) _ e3 in
       let e5 = and-right (leb (w .depth) deepest) _ e4 in
       let e6 = and-right (leb (w .have) 4) _ e5 in
       let e7 = and-right (leb (w .counts .rows) (w .place)) _ e6 in
@@ -94,8 +100,7 @@ module _ (k : ℕ) (w : Going) where
       let e9 = and-right (backFits (w .back) (w .counts .rows) (w .apns)) _ e8 in
       let e10 = and-right (cond (eqb (w .depth) 0) true (among k (book .kinds))) _ e9 in
       let b = back-is (w .back) (w .counts .rows) (w .apns) (and-left (backFits (w .back) (w .counts .rows) (w .apns)) _ e8) in
-      let t = two (w .levels) l (slot-is _ (and-left s0 _ e)) (slot-is _ (and-left _ _ e1)) in
-      let sum : w .place + (getD (w .levels) 0 noOpen .left + getD (w .levels) 1 noOpen .left) ≤ 4096 = leb-true _ _ (and-left _ _ e3) in
+      let t = slots-are (w .place) (w .levels) (leb-true _ _ (and-left (leb (w .place) largestMessage) _ e)) (and-left (slotsFit (w .place) (w .levels)) _ e3) in
       record {
         sized = record {
           slots = l;
@@ -103,7 +108,7 @@ module _ (k : ℕ) (w : Going) where
           deep = leb-true _ _ (and-left _ _ e4);
           have = leb-true _ _ (and-left _ _ e5);
           each = t .0;
-          ends = omega (arith, t .1);
+          ends = t .1;
           few = record { kept = leb-true _ _ (and-left _ _ e7); rows = leb-true _ _ (and-left _ _ e6) };
           owns = b .0;
           spare = b .1;
@@ -116,14 +121,9 @@ module _ (k : ℕ) (w : Going) where
   unfolding walkFits
   fits-test f =
       let s = f .sized in
-      let a = slot-at (w .levels) 0 (s .each) in
-      let b = slot-at (w .levels) 1 (s .each) in
-      let t = two (w .levels) (s .slots) a b in
       rw (
-        is-slot (getD (w .levels) 0 noOpen) a (omega (arith, s .ends, t .1)),
-        is-slot (getD (w .levels) 1 noOpen) b (omega (arith, s .ends, t .1)),
         le-leb (w .place) 4096 (omega (arith, s .ends)),
-        le-leb (w .place + (getD (w .levels) 0 noOpen .left + getD (w .levels) 1 noOpen .left)) 4096 (omega (arith, s .ends, t .1)),
+        are-slots (w .place) (w .levels) (s .each) (s .ends),
         le-leb (w .depth) deepest (s .deep),
         le-leb (w .have) 4 (s .have),
         le-leb (w .counts .rows) (w .place) (s .few .rows),

@@ -30,6 +30,11 @@ use Rattle.pieces.specs.Coded.{noOpen, topOf, idleBy, FedPieces, feedAll
 unfoldable pub slotFits : Open → Bool
 slotFits f = ltb (f .level) (length (book .levels)) && (leb (f .parent) largestMessage && (leb (f .home) largestMessage && leb (f .left) largestMessage))
 
+-- and so does each level, open or not; from a place on, they have so many octets left as a message may have
+unfoldable pub slotsFit : ℕ → List Open → Bool
+slotsFit at [] = true
+slotsFit at (f ∷ fs) = slotFits f && (leb (at + f .left) largestMessage && slotsFit (at + f .left) fs)
+
 -- the counts to go back to are some of those there are, and the APNs have a row each
 unfoldable pub backFits : Counts → ℕ → ℕ → Bool
 backFits back rows apns = leb (back .rows) rows && (leb apns (rows - back .rows) && leb (back .kept) (back .rows))
@@ -44,17 +49,15 @@ waits w =
 
 unfoldable pub walkFits : ℕ → Going → Bool
 walkFits k w =
-    slotFits (getD (w .levels) 0 noOpen)
-    && (slotFits (getD (w .levels) 1 noOpen)
-    && (leb (w .place) largestMessage
-    && (leb (w .place + (getD (w .levels) 0 noOpen .left + getD (w .levels) 1 noOpen .left)) largestMessage
+    leb (w .place) largestMessage
+    && (slotsFit (w .place) (w .levels)
     && (leb (w .depth) deepest
     && (leb (w .have) 4
     && (leb (w .counts .rows) (w .place)
     && (leb (w .counts .kept) (w .counts .rows)
     && (backFits (w .back) (w .counts .rows) (w .apns)
     && (cond (eqb (w .depth) 0) true (among k (book .kinds))
-    && waits w)))))))))
+    && waits w)))))))
 
 -- 17: it has ended, or the table has not the length that it began with
 unfoldable pub takes : Pieces → ℕ → Bool

@@ -187,14 +187,14 @@ unfoldable pub passOne : Going → Going
 passOne w = record { stopped = w .stopped; depth = w .depth; levels = w .levels; place = w .place; have = w .have; some = w .some; pass = w .pass - 1; counts = w .counts; limited = w .limited; apns = w .apns; back = w .back }
 
 unfoldable pub idleBy : Counts → Going
-idleBy c = record { stopped = false; depth = 0; levels = blankOpen ∷ blankOpen ∷ []; place = 0; have = 0; some = replicate 4 0; pass = 0; counts = c; limited = false; apns = 0; back = noCounts }
+idleBy c = record { stopped = false; depth = 0; levels = replicate deepest blankOpen; place = 0; have = 0; some = replicate 4 0; pass = 0; counts = c; limited = false; apns = 0; back = noCounts }
 
 -- a body that begins, before its levels are looked at
 unfoldable pub entryBy : List ℕ → Going
 entryBy h = record {
   stopped = false;
   depth = 1;
-  levels = opened (bodyLevel book h) 0 0 (lengthField h + 4 - headerLength h) ∷ blankOpen ∷ [];
+  levels = set (replicate deepest blankOpen) 0 (opened (bodyLevel book h) 0 0 (lengthField h + 4 - headerLength h));
   place = headerLength h;
   have = 0;
   some = replicate 4 0;

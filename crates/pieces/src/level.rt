@@ -129,7 +129,8 @@ pub(crate) fn settle(kind: u32, numbers: &[u32], w: Going) -> Going
 {
     let once = close_top(kind, numbers, w);
     let twice = close_top(kind, numbers, once);
-    check_top(kind, twice)
+    let thrice = close_top(kind, numbers, twice);
+    check_top(kind, thrice)
 }
 
 // The head of the element whose header is gathered.
@@ -180,7 +181,7 @@ pub(crate) fn into(
     came: usize,
     counts: Counts,
 ) -> Going
-    requires { ⌜ (Placing w len came) × (w .depth < 2) ⌝ }
+    requires { ⌜ (Placing w len came) × (w .depth < 3) ⌝ }
     ensures { λ r. ⌜ r ≡ into w on inner len first came counts ⌝ }
 {
     let depth = w.depth;
@@ -228,7 +229,7 @@ pub(crate) fn place(
     if inner == 0 {
         return beyond(w, on, len, came, counts);
     }
-    if w.depth < 2 {
+    if w.depth < 3 {
         return into(w, on, inner, len, first, came, counts);
     }
     beyond(w, on, len, came, counts)

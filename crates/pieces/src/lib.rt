@@ -32,7 +32,7 @@ pub struct Open {
 pub struct Going {
     pub stopped: bool,
     pub depth: usize,
-    pub levels: [Open; 2],
+    pub levels: [Open; 3],
     pub place: usize,
     pub have: usize,
     pub some: [u8; 4],
@@ -92,7 +92,7 @@ pub(crate) fn idle() -> Going
     Going {
         stopped: false,
         depth: 0,
-        levels: [none, none],
+        levels: [none, none, none],
         place: 0,
         have: 0,
         some: [0; 4],

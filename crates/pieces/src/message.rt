@@ -28,7 +28,7 @@ pub(crate) fn entry(head: &[u8; 4], n: usize) -> Going
     Going {
         stopped: false,
         depth: 1,
-        levels: [outer, none],
+        levels: [outer, none, none],
         place: at,
         have: 0,
         some: [0; 4],

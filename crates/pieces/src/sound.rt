@@ -6,7 +6,7 @@ ghost use lib.Dec.{eqb};
 ghost use lib.ListN.{length};
 ghost use Rattle.rules.specs.Types.{among};
 ghost use Rattle.rules.specs.Listings.{book};
-ghost use Rattle.pieces.specs.Answers.{slotFits, backFits, waits, walkFits};
+ghost use Rattle.pieces.specs.Answers.{slotFits, slotsFit, backFits, waits, walkFits};
 ghost use Rattle.pieces.specs.Contracts.{Readied};
 use crate::Going;
 use crate::Open;
@@ -18,7 +18,7 @@ use taking::wide;
 pub(crate) fn fits_level(f: Open) -> bool
     ensures { λ r. ⌜ r ≡ slotFits f ⌝ }
 {
-    if 16 <= f.level {
+    if 19 <= f.level {
         return false;
     }
     if 4096 < f.parent {
@@ -30,9 +30,30 @@ pub(crate) fn fits_level(f: Open) -> bool
     f.left <= 4096
 }
 
+// Each level fits, and from a place on they have no more octets left than a message may have.
+pub(crate) fn fits_levels(levels: [Open; 3], place: usize) -> bool
+    requires { ⌜ place ≤ 4096 ⌝ }
+    ensures { λ r. ⌜ r ≡ slotsFit place levels ⌝ }
+{
+    let mut at = place;
+    let mut n = 0;
+    while n < 3 {
+        let f = levels[n];
+        if !fits_level(f) {
+            return false;
+        }
+        at += f.left;
+        if 4096 < at {
+            return false;
+        }
+        n += 1;
+    }
+    true
+}
+
 // A header that is gathered whole is of an element that lies in its level and is not empty.
 pub(crate) fn waiting(w: Going) -> bool
-    requires { ⌜ w .depth ≤ 2 ⌝ }
+    requires { ⌜ w .depth ≤ 3 ⌝ }
     ensures { λ r. ⌜ r ≡ waits w ⌝ }
 {
     if w.stopped {
@@ -81,21 +102,14 @@ pub(crate) fn fits_back(back: Counts, rows: usize, apns: usize) -> bool
 pub(crate) fn fits(kind: u32, w: Going) -> bool
     ensures { λ r. ⌜ r ≡ walkFits kind w ⌝ }
 {
-    let f0 = w.levels[0];
-    let f1 = w.levels[1];
-    if !fits_level(f0) {
-        return false;
-    }
-    if !fits_level(f1) {
-        return false;
-    }
     if 4096 < w.place {
         return false;
     }
-    if 4096 < w.place + (f0.left + f1.left) {
+    let levels = w.levels;
+    if !fits_levels(levels, w.place) {
         return false;
     }
-    if 2 < w.depth {
+    if 3 < w.depth {
         return false;
     }
     if 4 < w.have {
@@ -118,8 +132,8 @@ pub(crate) fn fits(kind: u32, w: Going) -> bool
 }
 
 // Arrays are as long as their types say.
-pub(crate) fn two(levels: [Open; 2])
-    ensures { λ _. ⌜ length levels ≡ 2 ⌝ }
+pub(crate) fn three(levels: [Open; 3])
+    ensures { λ _. ⌜ length levels ≡ 3 ⌝ }
 {}
 
 pub(crate) fn four(some: [u8; 4])
@@ -142,7 +156,7 @@ pub fn ready(p: Pieces, room: usize) -> bool
     let going = p.going;
     let levels = going.levels;
     let some = going.some;
-    two(levels);
+    three(levels);
     four(some);
     fits(p.kind, going)
 }

@@ -94,7 +94,7 @@ module _ (teid sequence : ℕ) (t values : List ℕ) (room : ℕ) where
 module _ {teid sequence : ℕ} {t values lent : List ℕ} {s : Sent} {left : List ℕ} (c : Builds teid sequence t values lent s left) where
   pub build-alone : NumberAlone (s .verdict)
   unfolding headedChecks buildChecks
-  build-alone = rw (c .verdict-is) (alone-first _ 14 _ (alone-first _ 1 _ (alone-first _ 7 _ (alone-first _ 14 _ (alone-first _ 15 _ (alone-first _ 16 [] alone-none))))))
+  build-alone = rw (c .verdict-is) (alone-first _ 14 _ (alone-first _ 1 _ (alone-first _ 7 _ (alone-first _ 21 _ (alone-first _ 14 _ (alone-first _ 15 _ (alone-first _ 16 [] alone-none)))))))
 
   pub build-left-alone : refuses (s .verdict) ≡ true → (left ≡ lent) × (s .length ≡ 0)
   unfolding buildRoom buildLength

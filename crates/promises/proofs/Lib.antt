@@ -1,3 +1,4 @@
+pub mod OnKinds
 pub mod Covering
 pub mod Clearing
 pub mod Veils

@@ -4,7 +4,7 @@ use mathlib.Core.Path.{_≡_, refl, sym, ap, _∙_}
 use mathlib.Core.Logic.{_⊎_, inl, inr, _↔_, _≢_}
 use mathlib.Core.Bool.{Bool, true, false, cond, _||_}
 use mathlib.Core.List.{List, [], _∷_, _++_}
-use Prim.Native.Nat.{ℕ, suc, _+_, _-_, _*_, _≤_, _<_}
+use Prim.Native.Nat.{ℕ, zero, suc, _+_, _-_, _*_, _≤_, _<_}
 use native.Mathlib.Omega.{arith}
 use borrow.Author.Tests.{lt-ltb}
 use lib.ListN.{length, take, drop, getD, length-take}
@@ -12,12 +12,12 @@ use denote.Ref.{RefT, now}
 use Rattle.rules.specs.Sizes.{largestMessage, mostRows, headerNumbers, fiveOctets, answerOctets, used}
 use Rattle.rules.specs.Framing.{octet, elementHeader, headerLength, messageType}
 use Rattle.rules.specs.Types.{among}
-use Rattle.rules.specs.Listings.{book, noLine, lists}
+use Rattle.rules.specs.Listings.{book, noLine, lists, isMessage}
 use Rattle.rules.specs.Frames.{Frame, hides}
 use Rattle.rules.specs.Standing.{Item, kept, unexpected, repeated, short, void}
 use Rattle.rules.specs.Taking.{whole, taken, bodyLevel}
 use Rattle.rules.specs.Table.{keptRows, tableOf, laid}
-use Rattle.rules.specs.Verdicts.{accepted, refused, refusedAt, invalidLength, mandatoryMissing, refuses, first, framingChecks, items, callVerdict, callTable, callNumbers, judgeVerdict, judgeTable}
+use Rattle.rules.specs.Verdicts.{accepted, refused, refusedAt, invalidLength, mandatoryMissing, refuses, first, framingChecks, items, callVerdict, callTable, framingNumbers, callNumbers, judgeVerdict, judgeTable}
 use Rattle.rules.specs.Covered.{covered, masked, callCopy}
 use Rattle.rules.specs.Cleaned.{cleaned, cleanChecks, cleanVerdict, cleanLength, cleanNumbers}
 use Rattle.rules.specs.Built.{teidOf, sequenceOf, ZeroBits, builtBy, buildChecks, buildVerdict, buildLength, buildNumbers}
@@ -57,11 +57,13 @@ use Rattle.verdicts.proofs.Accepting.{table-iff}
 use Rattle.verdicts.proofs.Covers.{covered-iff}
 use Rattle.verdicts.proofs.CutPlace.{table-or-cut, never-both, cut-once}
 use Rattle.promises.specs.Agreeing.{SameOpen, AtDesk}
+use Rattle.promises.specs.OnKinds.{typesOn}
 use Rattle.promises.specs.Judged.{Judged}
 use Rattle.promises.specs.Voids.{Report, points, Inner, Says}
 use Rattle.promises.specs.Exports.{LeavesOctets}
 use Rattle.promises.specs.Cleaning.{CleanRows}
 use Rattle.promises.specs.Building.{SameRows, HasHead, NumberAlone}
+use Rattle.promises.proofs.OnKinds.{never, on-exactly, off-kind, kind-off}
 use Rattle.promises.proofs.Built.{short-table, long-table, build-alone, build-left-alone, is-built, build-past-stays, built-head, built-judged, built-zero, rebuilt-same}
 use Rattle.promises.specs.Lookups.{valueOf, TopRow, FirstTopRow, SomethingElse}
 use Rattle.promises.proofs.Left.{refused-table, accepted-table, table-stays, copied, uncopied, copied-framed}
@@ -95,10 +97,41 @@ module _ (k : ℕ) (m : List ℕ) where
   call-one-of octets room = call-codes book book-sound k m room octets
 
   -- none of 1 to 8 applies exactly where the header is as `Passed` says; what 1 to 9 refuse they refuse so, whatever is lent
-  pub passed-exactly : Passed book k m ↔ NoneHolds (framingConditions book k m) 8
+  pub passed-exactly : Passed book k m ↔ NoneHolds (framingConditions book k m) 9
   passed-exactly = passed-iff book book-sound k m
 
-  pub refused-alike : (octets room : ℕ) → 0 < callVerdict book k m octets room .code → callVerdict book k m octets room .code ≤ 9
+  -- a kind's messages: 1, 2 and 131 on kind 4, all but 131 on the others (`OnKinds.types-of`); what passes 1 to 8 is one of them, and where 1 to 6 pass a listed type
+  -- that is none of its kind's is told by 21, and nothing else is
+  pub of-its-kind : Passed book k m → among (messageType m) (typesOn k (book .messages)) ≡ true
+  of-its-kind p = on-exactly k (messageType m) .1 (p .listed, p .on-kind)
+
+  pub other-kind-told : (octets room : ℕ) → (callVerdict book k m octets room .code ≡ 21)
+      ↔ (NoneHolds (framingConditions book k m) 6 × ((isMessage book (messageType m) ≡ true) × (among (messageType m) (typesOn k (book .messages)) ≡ false)))
+  other-kind-told octets room = (
+    λ e. let w = call-in-its-case octets room 7 (omega arith) .0 e in (six w, off-kind k (messageType m) (w .none-before 6 (omega arith)) (w .holds)),
+    λ (n, (l, o)). call-in-its-case octets room 7 (omega arith) .1 (record { holds = kind-off k (messageType m) l o; none-before = seven n l }),
+  )
+    where
+      six : OwnWords (callConditions book k m octets room) 7 → NoneHolds (framingConditions book k m) 6
+      six w zero h = w .none-before 0 (omega arith)
+      six w (suc zero) h = w .none-before 1 (omega arith)
+      six w (suc (suc zero)) h = w .none-before 2 (omega arith)
+      six w (suc (suc (suc zero))) h = w .none-before 3 (omega arith)
+      six w (suc (suc (suc (suc zero)))) h = w .none-before 4 (omega arith)
+      six w (suc (suc (suc (suc (suc zero))))) h = w .none-before 5 (omega arith)
+      six w (suc (suc (suc (suc (suc (suc j)))))) h = absurd (omega arith)
+
+      seven : NoneHolds (framingConditions book k m) 6 → isMessage book (messageType m) ≡ true → (j : ℕ) → j < 7 → getD (callConditions book k m octets room) j ⊥ → ⊥
+      seven n l zero h = n 0 (omega arith)
+      seven n l (suc zero) h = n 1 (omega arith)
+      seven n l (suc (suc zero)) h = n 2 (omega arith)
+      seven n l (suc (suc (suc zero))) h = n 3 (omega arith)
+      seven n l (suc (suc (suc (suc zero)))) h = n 4 (omega arith)
+      seven n l (suc (suc (suc (suc (suc zero))))) h = n 5 (omega arith)
+      seven n l (suc (suc (suc (suc (suc (suc zero)))))) h = λ e. never (sym e ∙ l)
+      seven n l (suc (suc (suc (suc (suc (suc (suc j))))))) h = absurd (omega arith)
+
+  pub refused-alike : (octets room : ℕ) → among (callVerdict book k m octets room .code) framingNumbers ≡ true
       → (octets′ room′ : ℕ) → callVerdict book k m octets′ room′ ≡ callVerdict book k m octets room
   refused-alike = alike book book-sound k m
 
@@ -558,7 +591,7 @@ module _ {teid sequence : ℕ} {t values lent : List ℕ} {s : Sent} {left : Lis
   pub built-short-table : length t < headerNumbers → s .verdict ≡ refused 14 0
   built-short-table l = c .verdict-is ∙ short-table teid sequence t values (length lent) l
 
-  -- of any other each of 1, 7, 14, 15 and 16 is given exactly where its check applies and none before it does; nothing else is
+  -- of any other each of 1, 7, 21, 14, 15 and 16 is given exactly where its check applies and none before it does; nothing else is
   pub built-in-its-case : headerNumbers ≤ length t → (j : ℕ) → j < length buildNumbers
       → (s .verdict .code ≡ getD buildNumbers j 0) ↔ OwnCase (buildChecks book (tableKind t) (tableType t) teid sequence t values (length lent)) j
   built-in-its-case h j l =

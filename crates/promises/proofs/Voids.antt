@@ -312,6 +312,6 @@ module _ (b : Book) (fine : sound b ≡ true) (k : ℕ) (m t : List ℕ) (x : Is
     where
       go : Dec (octets < length m) → Outside (callVerdict b k m octets room .place)
       go (yes h) =
-          let z : callVerdict b k m octets room ≡ refused 13 0 = call-says b fine k m room octets 9 (omega arith) (thirteen b fine k m octets room .1 (h, (p, (t, x)))) in
+          let z : callVerdict b k m octets room ≡ refused 13 0 = call-says b fine k m room octets 10 (omega arith) (thirteen b fine k m octets room .1 (h, (p, (t, x)))) in
           rw z (inl begins-late)
       go (no h) = let z = roomy b fine k m octets room (omega arith) in rw z (named-outside p room (outcome b fine k m p t x room) (rw z at c))

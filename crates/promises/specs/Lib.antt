@@ -1,4 +1,5 @@
 pub mod Agreeing
+pub mod OnKinds
 pub mod Judged
 pub mod Voids
 pub mod Exports

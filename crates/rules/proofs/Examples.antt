@@ -15,7 +15,7 @@ use Rattle.rules.specs.Emitting.{sizeOf, sizes, within, emitted}
 use Rattle.rules.specs.Cleaned.{received, pieces, cleaned, cleanChecks, cleanLength, cleanCopy}
 use Rattle.rules.specs.Values.{standingKept, isOf, tableRows, rowSpan, deskSpan, isPlain, seekPlain, plainSpan}
 use Rattle.rules.specs.Built.{given, givens, since, depthFirst, someRow, anyOf, reasons, built, buildChecks, headedChecks, buildLength, buildRoom}
-use Rattle.rules.specs.Examples.{examples, rooms, empties, report, mixed, voids, outcome, written}
+use Rattle.rules.specs.Examples.{examples, rooms, contexts, empties, report, mixed, voids, outcome, written}
 use Rattle.rules.specs.CleanExamples.{cleanings, cleanOutcome, cleanWritten}
 use Rattle.rules.specs.LookupExamples.{lookups, lookupOutcome, lookupWritten}
 use Rattle.rules.specs.BuildExamples.{builds, buildOutcome, buildWritten}
@@ -28,6 +28,11 @@ a-to-m = refl
 pub all-rooms : map outcome rooms ≡ map written rooms
 unfolding rooms version flagP flagT messageType lengthField headerLength headOf parteds leastByType leastOf wholeTypes coversWhole restTypes coversRest levels messages book seek seekMessage listing messageOf isMessage isShort markAfter standing marked entered itemOf run walk itemsOf bodyLevel taken rowsOf keptRows header tableOf laid check first shortChecks hasKept levelChecks groupChecks lackChecks headerChecks framingChecks lentChecks callChecks callTable openOctets zeroed clearAll masked callCopy seen filledBy framesBy framesOf tally exceeds insideCleared
 all-rooms = refl
+
+-- a Context Response on S10, and what kind 4 takes
+pub all-contexts : map outcome contexts ≡ map written contexts
+unfolding contexts version flagP flagT messageType lengthField headerLength headOf parteds leastByType leastOf wholeTypes coversWhole restTypes coversRest levels messages book seek seekMessage listing messageOf isMessage isShort markAfter standing marked entered itemOf run walk itemsOf bodyLevel taken rowsOf keptRows header tableOf laid check first shortChecks hasKept levelChecks groupChecks lackChecks headerChecks framingChecks lentChecks callChecks callTable openOctets zeroed clearAll masked callCopy seen filledBy framesBy framesOf tally exceeds insideCleared
+all-contexts = refl
 
 -- ten APNs stand, and eleven void: short ones counted
 pub all-voids : map outcome voids ≡ map written voids

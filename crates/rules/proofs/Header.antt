@@ -33,6 +33,7 @@ pub record Passed (b : Book) (k : ℕ) (m : List ℕ) : Type 0 where
   pub no-p : flagP m ≡ false
   pub length-right : lengthField m + 4 ≡ length m
   pub listed : isMessage b (messageType m) ≡ true
+  pub on-kind : among k (messageOf b (messageType m) .kinds) ≡ true
   pub t-right : flagT m ≡ messageOf b (messageType m) .teid
 
 -- a check that does not refuse does not apply
@@ -64,7 +65,8 @@ module _ (b : Book) (k : ℕ) (m : List ℕ) where
         no-p = off _ (refused 5 0) refl (a .1 .1 .1 .1 .0);
         length-right = eqb-true _ _ (un-not _ (off _ (refused 6 67) refl (a .1 .1 .1 .1 .1 .0)));
         listed = un-not _ (off _ (refused 7 0) refl (a .1 .1 .1 .1 .1 .1 .0));
-        t-right = beq-same _ _ (un-not _ (off _ (refused 8 0) refl (a .1 .1 .1 .1 .1 .1 .1 .0)));
+        on-kind = un-not _ (off _ (refused 21 0) refl (a .1 .1 .1 .1 .1 .1 .1 .0));
+        t-right = beq-same _ _ (un-not _ (off _ (refused 8 0) refl (a .1 .1 .1 .1 .1 .1 .1 .1 .0)));
       }
 
   -- checks 1 to 9 pass: checks 1 to 8 do, and the elements are all taken
@@ -156,7 +158,7 @@ module _ (b : Book) (k : ℕ) (m : List ℕ) where
           check-code 4 _ _ refl,
           (
             check-code 5 _ _ refl,
-            (check-code 6 _ _ refl, (check-code 7 _ _ refl, (check-code 8 _ _ refl, (cut-code (taken b k m), tt)))),
+            (check-code 6 _ _ refl, (check-code 7 _ _ refl, (check-code 21 _ _ refl, (check-code 8 _ _ refl, (cut-code (taken b k m), tt))))),
           ),
         ),
       ),
@@ -179,28 +181,28 @@ module _ (b : Book) (k : ℕ) (m : List ℕ) where
   table-numbered room = (check-code 10 _ _ refl, (short-code, (lack-code, tt)))
 
   -- 13, then 10 to 12
-  pub call-case : (octets room j : ℕ) → j < 13 → (first (callChecks b k m octets room) .code ≡ getD callNumbers j 0) ↔ OwnCase (callChecks b k m octets room) j
+  pub call-case : (octets room j : ℕ) → j < 14 → (first (callChecks b k m octets room) .code ≡ getD callNumbers j 0) ↔ OwnCase (callChecks b k m octets room) j
   unfolding callChecks Numbered separate
   call-case octets room j l =
       in-its-case callNumbers (callChecks b k m octets room) refl
       (numbered (13 ∷ 10 ∷ 11 ∷ 12 ∷ []) (copyCheck b k m octets ∷ tableChecks b k m room) (check-code 13 _ _ refl, table-numbered room)) j l
 
   module _ (room : ℕ) where
-    pub judge-case : (j : ℕ) → j < 12 → (first (judgeChecks b k m room) .code ≡ getD judgeNumbers j 0) ↔ OwnCase (judgeChecks b k m room) j
+    pub judge-case : (j : ℕ) → j < 13 → (first (judgeChecks b k m room) .code ≡ getD judgeNumbers j 0) ↔ OwnCase (judgeChecks b k m room) j
     unfolding judgeChecks separate
     judge-case j l =
         in-its-case judgeNumbers (judgeChecks b k m room) refl (numbered (10 ∷ 11 ∷ 12 ∷ []) (tableChecks b k m room) (table-numbered room)) j l
 
-    pub clean-case : (j : ℕ) → j < 12 → (first (cleanChecks b k m room) .code ≡ getD cleanNumbers j 0) ↔ OwnCase (cleanChecks b k m room) j
+    pub clean-case : (j : ℕ) → j < 13 → (first (cleanChecks b k m room) .code ≡ getD cleanNumbers j 0) ↔ OwnCase (cleanChecks b k m room) j
     unfolding cleanChecks Numbered separate
     clean-case j l =
         in-its-case cleanNumbers (cleanChecks b k m room) refl
         (numbered (11 ∷ 12 ∷ 13 ∷ []) (shortVerdict (items b k m) ∷ lackVerdict b k (bodyLevel b m) (items b k m) ∷ tooShort b k m room ∷ [])
         (short-code, (lack-code, (check-code 13 _ _ refl, tt)))) j l
 
-pub build-case : (b : Book) (k typ teid sequence : ℕ) (t values : List ℕ) (room j : ℕ) → j < 5
+pub build-case : (b : Book) (k typ teid sequence : ℕ) (t values : List ℕ) (room j : ℕ) → j < 6
     → (first (buildChecks b k typ teid sequence t values room) .code ≡ getD buildNumbers j 0) ↔ OwnCase (buildChecks b k typ teid sequence t values room) j
 unfolding buildChecks Numbered separate
 build-case b k typ teid sequence t values room j l =
     in-its-case buildNumbers (buildChecks b k typ teid sequence t values room) refl
-    (check-code 1 _ _ refl, (check-code 7 _ _ refl, (check-code 14 _ _ refl, (check-code 15 _ _ refl, (check-code 16 _ _ refl, tt))))) j l
+    (check-code 1 _ _ refl, (check-code 7 _ _ refl, (check-code 21 _ _ refl, (check-code 14 _ _ refl, (check-code 15 _ _ refl, (check-code 16 _ _ refl, tt)))))) j l

@@ -102,7 +102,11 @@ builds =
     asked 0 1 (take 6 (tableOfG 257 3 0 0)) [] 23 (refused 7 0) 0 [] ∷
     refusedG (tableOfG 322 1 16 5) 7 ∷
     refusedG (tableOfG 66 0 16 5) 1 ∷
-    refusedG (tableOfG 66 4 16 5) 1 ∷
+    refusedG (tableOfG 66 5 16 5) 1 ∷
+    -- a type that is not on the kind, after one that is none, and before the rest
+    refusedG (tableOfG 66 4 16 5) 21 ∷
+    asked 0 1 (take 6 (tableOfG 131 3 0 0)) [] 23 (refused 21 0) 0 [] ∷
+    asked 0 1 (take 6 (tableOfG 257 4 0 0)) [] 23 (refused 7 0) 0 [] ∷
     -- another type and another kind, on which it is not accepted, and one on which it is
     refusedG (tableOfG 67 1 16 5) 16 ∷
     asked 1 2 (tableOfG 66 3 16 5) messageG 23 accepted 21 messageG ∷

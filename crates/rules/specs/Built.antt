@@ -140,6 +140,7 @@ module _ (b : Book) (k typ teid sequence : ℕ) (t values : List ℕ) where
   buildChecks room =
       check (not (among k (b .kinds))) (refused 1 0)
       ∷ check (not (isMessage b typ)) (refused 7 0)
+      ∷ check (not (among k (messageOf b typ .kinds))) (refused 21 0)
       ∷ check (anyOf (reasons sequence t values)) (refused 14 0)
       ∷ check (tooLarge room) (refused 15 0)
       ∷ check (not (acceptedWhole b k built)) (refused 16 0)
@@ -168,7 +169,7 @@ module _ (b : Book) (teid sequence : ℕ) (t values : List ℕ) where
 
 -- the numbers that it is refused with; 14 comes first where the table is too short for a header
 abbrev pub buildNumbers : List ℕ
-buildNumbers = 1 ∷ 7 ∷ 14 ∷ 15 ∷ 16 ∷ []
+buildNumbers = 1 ∷ 7 ∷ 21 ∷ 14 ∷ 15 ∷ 16 ∷ []
 
 -- ---- a message rebuilt from itself (rule 12.6)
 

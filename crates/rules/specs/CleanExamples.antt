@@ -50,9 +50,10 @@ cleanings =
     cleaning 1 messageG 22 accepted 21 messageG ∷
     -- a void report goes whole
     cleaning 1 (report (empties 11 [])) 34 accepted 33 (set (take 33 (report [])) 3 0x1D) ∷
-    -- K on kind 3: 12, as the judge says; on no kind: 1
+    -- K on kind 3: 12, as the judge says; on kind 4, which does not take it: 21; on no kind: 1
     cleaning 3 messageK 23 (refusedAt 12 70 21 183 0) 0 [] ∷
-    cleaning 4 messageK 23 (refused 1 0) 0 [] ∷
+    cleaning 4 messageK 23 (refused 21 0) 0 [] ∷
+    cleaning 5 messageK 23 (refused 1 0) 0 [] ∷
     []
 
 abbrev pub lentTo : Cleaning → List ℕ

@@ -238,6 +238,97 @@ voids =
     voided 0x1C (report mixed) 61 (report mixedMasked) ∷
     []
 
+-- ---- CR 10: a Context Response on kind 4, three levels deep
+
+-- in its 109/0 an APN, an address, an EBI, an F-TEID, a bearer context with EBI and QoS, and an AMBR
+abbrev pub messageS10 : List ℕ
+messageS10 =
+    0x48 ∷ 0x83 ∷ 0x00 ∷ 0x62 ∷ 0x00 ∷ 0x00 ∷ 0x00 ∷ 0x01 ∷ 0x00 ∷ 0x00 ∷ 0x02 ∷ 0x00 ∷
+    0x02 ∷ 0x00 ∷ 0x02 ∷ 0x00 ∷ 0x10 ∷ 0x00 ∷
+    0x69 ∷ 0x00 ∷ 0x02 ∷ 0x00 ∷ 0x11 ∷ 0x22 ∷
+    0x6D ∷ 0x00 ∷ 0x4A ∷ 0x00 ∷
+    0x47 ∷ 0x00 ∷ 0x01 ∷ 0x00 ∷ 0x61 ∷
+    0x4A ∷ 0x00 ∷ 0x04 ∷ 0x00 ∷ 0x0A ∷ 0x01 ∷ 0x02 ∷ 0x03 ∷
+    0x49 ∷ 0x00 ∷ 0x01 ∷ 0x00 ∷ 0x05 ∷
+    0x57 ∷ 0x00 ∷ 0x05 ∷ 0x00 ∷ 0x0A ∷ 0x00 ∷ 0x00 ∷ 0x00 ∷ 0x01 ∷
+    0x5D ∷ 0x00 ∷ 0x1F ∷ 0x00 ∷
+    0x49 ∷ 0x00 ∷ 0x01 ∷ 0x00 ∷ 0x05 ∷
+    0x50 ∷ 0x00 ∷ 0x16 ∷ 0x00 ∷ replicate 22 1 ++
+    (0x48 ∷ 0x00 ∷ 0x08 ∷ 0x00 ∷ replicate 8 2)
+
+-- the values of 105/0 and 74/0 are covered, wherever they stand
+abbrev pub maskedS10 : List ℕ
+maskedS10 = take 22 messageS10 ++ (0x00 ∷ 0x00 ∷ (take 13 (drop 24 messageS10) ++ (0x00 ∷ 0x00 ∷ 0x00 ∷ 0x00 ∷ drop 41 messageS10)))
+
+abbrev pub tableS10 : List ℕ
+tableS10 =
+    head 11 11 6 72 131 4 (line 0 2 0 16 2 0 (line 0 105 0 22 2 0 (line 0 109 0 28 74 0 (line 3 71 0 32 1 0 (line 3 74 0 37 4 0 (line 3 73 0 45 1 0 (line 3 87 0 50 5 0
+    (line 3 93 0 59 31 0 (line 8 73 0 63 1 0 (line 8 80 0 68 22 0 (line 3 72 0 94 8 0 [])))))))))))
+
+-- one with all six of 103/0 to 108/0, each of one octet
+abbrev pub keysS10 : ℕ → List ℕ
+keysS10 x =
+    0x48 ∷ 0x83 ∷ 0x00 ∷ 0x2C ∷ 0x00 ∷ 0x00 ∷ 0x00 ∷ 0x01 ∷ 0x00 ∷ 0x00 ∷ 0x02 ∷ 0x00 ∷
+    0x02 ∷ 0x00 ∷ 0x02 ∷ 0x00 ∷ 0x10 ∷ 0x00 ∷
+    0x67 ∷ 0x00 ∷ 0x01 ∷ 0x00 ∷ x ∷
+    0x68 ∷ 0x00 ∷ 0x01 ∷ 0x00 ∷ x ∷
+    0x69 ∷ 0x00 ∷ 0x01 ∷ 0x00 ∷ x ∷
+    0x6A ∷ 0x00 ∷ 0x01 ∷ 0x00 ∷ x ∷
+    0x6B ∷ 0x00 ∷ 0x01 ∷ 0x00 ∷ x ∷
+    0x6C ∷ 0x00 ∷ 0x01 ∷ 0x00 ∷ x ∷ []
+
+-- one whose connection has two bearers, and an address one octet too short
+abbrev pub bearersS10 : ℕ → ℕ → ℕ → List ℕ
+bearersS10 x y z =
+    0x48 ∷ 0x83 ∷ 0x00 ∷ 0x7E ∷ 0x00 ∷ 0x00 ∷ 0x00 ∷ 0x01 ∷ 0x00 ∷ 0x00 ∷ 0x02 ∷ 0x00 ∷
+    0x02 ∷ 0x00 ∷ 0x02 ∷ 0x00 ∷ 0x10 ∷ 0x00 ∷
+    0x6D ∷ 0x00 ∷ 0x6C ∷ 0x00 ∷
+    0x47 ∷ 0x00 ∷ 0x01 ∷ 0x00 ∷ 0x61 ∷
+    0x4A ∷ 0x00 ∷ 0x03 ∷ 0x00 ∷ x ∷ y ∷ z ∷
+    0x49 ∷ 0x00 ∷ 0x01 ∷ 0x00 ∷ 0x05 ∷
+    0x57 ∷ 0x00 ∷ 0x05 ∷ 0x00 ∷ 0x0A ∷ 0x00 ∷ 0x00 ∷ 0x00 ∷ 0x01 ∷
+    0x5D ∷ 0x00 ∷ 0x1F ∷ 0x00 ∷ 0x49 ∷ 0x00 ∷ 0x01 ∷ 0x00 ∷ 0x05 ∷ 0x50 ∷ 0x00 ∷ 0x16 ∷ 0x00 ∷ replicate 22 1 ++
+    (0x5D ∷ 0x00 ∷ 0x1F ∷ 0x00 ∷ 0x49 ∷ 0x00 ∷ 0x01 ∷ 0x00 ∷ 0x06 ∷ 0x50 ∷ 0x00 ∷ 0x16 ∷ 0x00 ∷ replicate 22 1 ++
+    (0x48 ∷ 0x00 ∷ 0x08 ∷ 0x00 ∷ replicate 8 2))
+
+abbrev pub rowsOfBearers : List ℕ
+rowsOfBearers =
+    head 13 12 6 84 131 4 (line 0 2 0 16 2 0 (line 0 109 0 22 108 0 (line 2 71 0 26 1 0 (line 2 74 0 31 3 3 (line 2 73 0 38 1 0 (line 2 87 0 43 5 0
+    (line 2 93 0 52 31 0 (line 7 73 0 56 1 0 (line 7 80 0 61 22 0 (line 2 93 0 87 31 0 (line 10 73 0 91 1 0 (line 10 80 0 96 22 0 (line 2 72 0 122 8 0 [])))))))))))))
+
+-- on kind k, with room for twelve rows and the message
+abbrev pub between : ℕ → List ℕ → Verdict → List ℕ → List ℕ → Example
+between k m v numbers octets = asked 0x1E k m (replicate 78 7) (replicate 103 7) v numbers octets
+
+unfoldable pub contexts : List Example
+contexts =
+    between 4 messageS10 accepted tableS10 maskedS10 ∷
+    -- 131 is on no other kind; on kind 4 nothing but it and 1 and 2 is: 21, and 7 for what is no message; 5 is no kind
+    between 1 messageS10 (refused 21 0) [] [] ∷
+    between 4 messageG (refused 21 0) [] [] ∷
+    between 4 (set messageG 1 0xC8) (refused 7 0) [] [] ∷
+    between 5 messageS10 (refused 1 0) [] [] ∷
+    between 4 messageD accepted (head 1 1 6 12 1 4 (line 0 3 0 12 1 0 [])) messageD ∷
+    -- 21 comes before 8
+    between 1 (0x40 ∷ 0x83 ∷ 0x00 ∷ 0x04 ∷ 0x00 ∷ 0x00 ∷ 0x01 ∷ 0x00 ∷ []) (refused 21 0) [] [] ∷
+    between 4 (0x40 ∷ 0x83 ∷ 0x00 ∷ 0x04 ∷ 0x00 ∷ 0x00 ∷ 0x01 ∷ 0x00 ∷ []) (refused 8 0) [] [] ∷
+    -- the innermost 80/0 one octet too long for its group: 9 67 64 0 0
+    between 4 (set messageS10 66 0x17) (refusedAt 9 67 64 0 0) [] [] ∷
+    -- the bearer without its QoS: 12 70 55 80 0; the connection without its AMBR: 12 70 24 72 0; without both the outer group is named
+    between 4 (set messageS10 64 0x54) (refusedAt 12 70 55 80 0) [] (set maskedS10 64 0x54) ∷
+    between 4 (set messageS10 90 0x88) (refusedAt 12 70 24 72 0) [] (set maskedS10 90 0x88) ∷
+    between 4 (set (set messageS10 64 0x54) 90 0x88) (refusedAt 12 70 24 72 0) [] (set (set maskedS10 64 0x54) 90 0x88) ∷
+    -- the keys are covered, all six
+    between 4 (keysS10 0x11) accepted
+    (head 7 7 6 48 131 4 (line 0 2 0 16 2 0 (line 0 103 0 22 1 0 (line 0 104 0 27 1 0 (line 0 105 0 32 1 0 (line 0 106 0 37 1 0 (line 0 107 0 42 1 0 (line 0 108 0 47 1 0 []))))))))
+    (keysS10 0x00) ∷
+    -- two bearers, and an address that is short and covered all the same
+    asked 0x1E 4 (bearersS10 0x0A 0x01 0x02) (replicate 90 7) (replicate 131 7) accepted rowsOfBearers (bearersS10 0x00 0x00 0x00) ∷
+    -- a 93 in the body is not listed there, and is covered whole
+    between 4 (set messageS10 24 0x5D) accepted (head 3 2 6 24 131 4 (line 0 2 0 16 2 0 (line 0 105 0 22 2 0 (line 0 93 0 28 74 1 []))))
+    (set (take 28 maskedS10) 24 0x5D ++ replicate 74 0) ∷
+    []
+
 -- what comes out, and what is written
 abbrev pub outcome : Example → Outcome
 outcome x = record {

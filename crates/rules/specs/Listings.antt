@@ -22,10 +22,11 @@ pub record Line : Type 0 where
   pub inside : ℕ
   pub limits : List Limit
 
--- a message type: has it T = 1, and the level of its body
+-- a message type: has it T = 1, the kinds that it is sent on, and the level of its body
 pub record Message : Type 0 where
   pub typ : ℕ
   pub teid : Bool
+  pub kinds : List ℕ
   pub body : ℕ
 
 -- all that the rules take from the listings; level n is the n-th listing, and level 0 is none
@@ -36,9 +37,9 @@ pub record Book : Type 0 where
 
 -- ---- the words of a listing
 
--- interface kinds: 1 = S11, 2 = S4, 3 = S5/S8
+-- interface kinds: 1 = S11, 2 = S4, 3 = S5/S8, 4 = S10
 abbrev pub allKinds : List ℕ
-allKinds = 1 ∷ 2 ∷ 3 ∷ []
+allKinds = 1 ∷ 2 ∷ 3 ∷ 4 ∷ []
 
 -- every instance: an instance has four bits, so none is 16
 abbrev pub anyInstance : ℕ
@@ -96,6 +97,12 @@ in-180/0-of-67 = 11
 abbrev pub in-93/0-of-97 : ℕ
 in-93/0-of-97 = 15
 
+abbrev pub in-109/0-of-131 : ℕ
+in-109/0-of-131 = 17
+
+abbrev pub in-93/0-of-109/0 : ℕ
+in-93/0-of-109/0 = 18
+
 unfoldable pub levels : List (List Line)
 levels =
     -- level 0 is none
@@ -107,7 +114,7 @@ levels =
     []) ∷
     -- level 2: 32 Create Session Request
     body (
-    pair 1 0 ∷
+    pair 1 0 ∷  -- CR 5
     pair 76 0 ∷
     pair 75 0 ∷
     pair 86 0 ∷
@@ -116,7 +123,7 @@ levels =
     pair 77 0 ∷
     must (pair 87 0) ∷
     pair 87 1 ∷
-    must (pair 71 0) ∷
+    must (pair 71 0) ∷  -- CR 5
     pair 128 0 ∷
     pair 99 0 ∷
     pair 79 0 ∷
@@ -233,23 +240,68 @@ levels =
     pair 95 0 ∷
     pair 94 0 ∷
     []) ∷
+    -- level 16: 131 Context Response
+    body (
+    must (pair 2 0) ∷
+    pair 1 0 ∷
+    pair 103 0 ∷
+    pair 104 0 ∷
+    pair 105 0 ∷
+    pair 106 0 ∷
+    pair 107 0 ∷
+    pair 108 0 ∷
+    many (group 109 0 in-109/0-of-131) ∷
+    pair 87 0 ∷
+    pair 87 1 ∷
+    pair 136 0 ∷
+    pair 77 0 ∷
+    []) ∷
+    -- level 17: in 109/0 of 131
+    (
+    must (pair 71 0) ∷
+    pair 127 0 ∷
+    pair 128 0 ∷
+    pair 74 0 ∷
+    pair 74 1 ∷
+    must (pair 73 0) ∷
+    must (pair 87 0) ∷
+    pair 136 0 ∷
+    must (many (group 93 0 in-93/0-of-109/0)) ∷
+    must (pair 72 0) ∷
+    []) ∷
+    -- level 18: in 93/0 of 109/0
+    (
+    must (pair 73 0) ∷
+    pair 84 0 ∷
+    pair 87 0 ∷
+    pair 87 1 ∷
+    must (pair 80 0) ∷
+    []) ∷
     []
 
--- type, T, and the level of its body (rule 3.2)
-abbrev pub message : ℕ → Bool → ℕ → Message
-message t teid v = record { typ = t; teid = teid; body = v }
+-- type, T, the kinds that it is sent on, and the level of its body (rules 3.1, 3.2)
+abbrev pub message : ℕ → Bool → List ℕ → ℕ → Message
+message t teid ks v = record { typ = t; teid = teid; kinds = ks; body = v }
+
+-- between gateways, and between a gateway and what it serves; and between MMEs
+abbrev pub gateways : List ℕ
+gateways = 1 ∷ 2 ∷ 3 ∷ []
+
+abbrev pub mmes : List ℕ
+mmes = 4 ∷ []
 
 unfoldable pub messages : List Message
 messages =
-    message 1 false 1 ∷
-    message 2 false 1 ∷
-    message 32 true 2 ∷
-    message 37 true 5 ∷
-    message 66 true 6 ∷
-    message 67 true 9 ∷
-    message 68 true 12 ∷
-    message 69 true 13 ∷
-    message 97 true 14 ∷
+    message 1 false allKinds 1 ∷
+    message 2 false allKinds 1 ∷
+    message 32 true gateways 2 ∷
+    message 37 true gateways 5 ∷
+    message 66 true gateways 6 ∷
+    message 67 true gateways 9 ∷
+    message 68 true gateways 12 ∷
+    message 69 true gateways 13 ∷
+    message 97 true gateways 14 ∷
+    message 131 true mmes 16 ∷
     []
 
 -- these listings
@@ -272,7 +324,7 @@ abbrev pub noLine : Line
 noLine = record { typ = 0; inst = 0; must = false; many = false; kinds = []; inside = 0; limits = [] }
 
 abbrev pub noMessage : Message
-noMessage = message 0 false 0
+noMessage = message 0 false [] 0
 
 -- the number of the first message of that type, or the number of messages
 unfoldable pub seekMessage : List Message → ℕ → ℕ

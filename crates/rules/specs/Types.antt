@@ -2,12 +2,13 @@
 --
 -- The type numbers that the rules name, with their names in TS 29.274 Table 8.1-1:
 --       1 IMSI                    2 Cause                          3 Recovery
---      71 APN                    72 AMBR                          73 EPS Bearer ID          75 MEI          76 MSISDN
+--      71 APN                    72 AMBR                          73 EPS Bearer ID          74 IP Address   75 MEI          76 MSISDN
 --      77 Indication             78 PCO                           79 PDN Address Allocation
 --      80 Bearer QoS             81 Flow QoS                      82 RAT Type               83 Serving Network
 --      84 Bearer TFT             85 Traffic Aggregate Description 86 User Location Information
 --      87 F-TEID                 93 Bearer Context                94 Charging ID            95 Charging Characteristics
 --      96 Trace Information      97 Bearer Flags                  99 PDN Type              100 Procedure Transaction ID
+--     103 to 108 MM Context     109 PDN Connection               136 FQDN
 --     114 UE Time Zone          127 APN Restriction              128 Selection Mode        132 FQ-CSID
 --     152 Node Features         156 EPC Timer                    170 ULI Timestamp         172 RAN/NAS Cause
 --     180 Overload Control Information                           182 Metric                183 Sequence Number
@@ -66,10 +67,10 @@ added (p ∷ ps) f = cond (eqb (f / p .divisor % p .modulus) (p .is)) (p .size) 
 -- every other type: by its number alone
 unfoldable pub leastByType : ℕ → ℕ
 leastByType t =
-    cond (among t (93 ∷ 180 ∷ [])) 0
+    cond (among t (93 ∷ 109 ∷ 180 ∷ [])) 0
     (cond (among t (2 ∷ 95 ∷ 114 ∷ 255 ∷ [])) 2
     (cond (eqb t 83) 3
-    (cond (among t (94 ∷ 170 ∷ 183 ∷ [])) 4
+    (cond (among t (74 ∷ 94 ∷ 170 ∷ 183 ∷ [])) 4
     (cond (eqb t 72) 8
     (cond (eqb t 81) 21
     (cond (eqb t 80) 22 1))))))
@@ -90,10 +91,10 @@ parted (p ∷ ps) t = eqb t (p .typ) || parted ps t
 unfoldable pub isParted : ℕ → Bool
 isParted t = parted parteds t
 
--- ---- groups are 93 and 180
+-- ---- groups are 93, 109 and 180
 
 unfoldable pub groups : List ℕ
-groups = 93 ∷ 180 ∷ []
+groups = 93 ∷ 109 ∷ 180 ∷ []
 
 unfoldable pub isGroup : ℕ → Bool
 isGroup t = among t groups
@@ -102,7 +103,7 @@ isGroup t = among t groups
 
 -- the whole value
 unfoldable pub wholeTypes : List ℕ
-wholeTypes = 1 ∷ 75 ∷ 76 ∷ 78 ∷ 255 ∷ []
+wholeTypes = 1 ∷ 74 ∷ 75 ∷ 76 ∷ 78 ∷ 103 ∷ 104 ∷ 105 ∷ 106 ∷ 107 ∷ 108 ∷ 255 ∷ []
 
 unfoldable pub coversWhole : ℕ → Bool
 coversWhole t = among t wholeTypes

@@ -101,7 +101,7 @@ lackChecks b k v is = levelChecks k is 0 0 (listing b v) ++ groupChecks b k is 0
 abbrev pub lackVerdict : Book → ℕ → ℕ → List Item → Verdict
 lackVerdict b k v is = first (lackChecks b k v is)
 
--- checks 1 to 8 of a message of n octets that begins with `head`: none of them reads past octet 3
+-- checks 1 to 8, and 21 after 7, of a message of n octets that begins with `head`: none of them reads past octet 3
 abbrev pub openingChecks : Book → ℕ → List ℕ → ℕ → List Verdict
 openingChecks b k head n =
     check (not (among k (b .kinds))) (refused 1 0)
@@ -111,6 +111,7 @@ openingChecks b k head n =
     ∷ check (flagP head) (refused 5 0)
     ∷ check (not (eqb (lengthField head + 4) n)) (refused 6 invalidLength)
     ∷ check (not (isMessage b (messageType head))) (refused 7 0)
+    ∷ check (not (among k (messageOf b (messageType head) .kinds))) (refused 21 0)
     ∷ check (not (Bool·beq (flagT head) (messageOf b (messageType head) .teid))) (refused 8 0)
     ∷ []
 
@@ -177,7 +178,7 @@ module _ (b : Book) (k : ℕ) (m : List ℕ) where
 
 -- the numbers of checks 1 to 9; those of the one call, in the order of its checks; and those without a copy
 abbrev pub framingNumbers : List ℕ
-framingNumbers = 1 ∷ 2 ∷ 3 ∷ 4 ∷ 5 ∷ 6 ∷ 7 ∷ 8 ∷ 9 ∷ []
+framingNumbers = 1 ∷ 2 ∷ 3 ∷ 4 ∷ 5 ∷ 6 ∷ 7 ∷ 21 ∷ 8 ∷ 9 ∷ []
 
 abbrev pub callNumbers : List ℕ
 callNumbers = framingNumbers ++ (13 ∷ 10 ∷ 11 ∷ 12 ∷ [])

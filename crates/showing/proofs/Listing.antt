@@ -49,15 +49,16 @@ reading-kept k m = go (refuses (first (framingChecks book k m))) refl
     go false e = rw e (kept-most (items book k m))
 
 -- a kind that 1 passes has 16 bits
-known : (k : ℕ) → among k (book .kinds) ≡ true → k ≤ 3
+known : (k : ℕ) → among k (book .kinds) ≡ true → k ≤ 4
 unfolding book
-known k e = go (eqb k 1) (eqb k 2) (eqb k 3) refl refl refl e
+known k e = go (eqb k 1) (eqb k 2) (eqb k 3) (eqb k 4) refl refl refl refl e
   where
-    go : (a b c : Bool) → eqb k 1 ≡ a → eqb k 2 ≡ b → eqb k 3 ≡ c → (a || (b || (c || false))) ≡ true → k ≤ 3
-    go true b c x y z w = omega (arith, eqb-true k 1 x)
-    go false true c x y z w = omega (arith, eqb-true k 2 y)
-    go false false true x y z w = omega (arith, eqb-true k 3 z)
-    go false false false x y z w = let u : _≡_ {A = ℕ} 0 1 = cc in absurd (omega arith)
+    go : (a b c d : Bool) → eqb k 1 ≡ a → eqb k 2 ≡ b → eqb k 3 ≡ c → eqb k 4 ≡ d → (a || (b || (c || (d || false)))) ≡ true → k ≤ 4
+    go true b c d x y z u w = omega (arith, eqb-true k 1 x)
+    go false true c d x y z u w = omega (arith, eqb-true k 2 y)
+    go false false true d x y z u w = omega (arith, eqb-true k 3 z)
+    go false false false true x y z u w = omega (arith, eqb-true k 4 u)
+    go false false false false x y z u w = let t : _≡_ {A = ℕ} 0 1 = cc in absurd (omega arith)
 
 kind-narrow : (k : ℕ) (m : List ℕ) → refuses (first (framingChecks book k m)) ≡ false → narrow k ≡ k
 unfolding narrow

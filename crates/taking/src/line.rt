@@ -35,7 +35,10 @@ pub(crate) fn on(kind: u32, line: u32) -> bool
     if kind == 2 {
         return line / 65536 % 2 == 1;
     }
-    line / 131072 % 2 == 1
+    if kind == 3 {
+        return line / 131072 % 2 == 1;
+    }
+    line / 262144 % 2 == 1
 }
 
 // How many lines after it are passed over in a search of the mandatory ones.

@@ -79,7 +79,7 @@ one-of vs ns len own = go (first-own vs)
 pub call-accepting : (b : Book) (fine : sound b ≡ true) (k : ℕ) (m : List ℕ) (octets room : ℕ)
     → (callVerdict b k m octets room ≡ accepted) ↔ NoneHolds (callConditions b k m octets room) (length callNumbers)
 call-accepting b fine k m octets room =
-    none-accepts (callChecks b k m octets room) (callConditions b k m octets room) 13 (call-count b k m room octets) (call-step b fine k m octets room)
+    none-accepts (callChecks b k m octets room) (callConditions b k m octets room) 14 (call-count b k m room octets) (call-step b fine k m octets room)
 
 module _ (b : Book) (fine : sound b ≡ true) (k : ℕ) (m : List ℕ) (room : ℕ) where
   pub call-codes : (octets : ℕ) → OneOf callNumbers (callVerdict b k m octets room)

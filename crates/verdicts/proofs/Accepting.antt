@@ -69,8 +69,11 @@ module _ (b : Book) (k : ℕ) (m : List ℕ) where
               (
                 off (not (isMessage b (messageType m))) (refused 7 0) refl (rw (p .listed)),
                 (
-                  off (not (Bool·beq (flagT m) (messageOf b (messageType m) .teid))) (refused 8 0) refl (same-beq (flagT m) (messageOf b (messageType m) .teid) (p .t-right)),
-                  tt,
+                  off (not (among k (messageOf b (messageType m) .kinds))) (refused 21 0) refl (rw (p .on-kind)),
+                  (
+                    off (not (Bool·beq (flagT m) (messageOf b (messageType m) .teid))) (refused 8 0) refl (same-beq (flagT m) (messageOf b (messageType m) .teid) (p .t-right)),
+                    tt,
+                  ),
                 ),
               ),
             ),

@@ -21,7 +21,8 @@ use Rattle.rules.specs.Listings.{Book}
 use Rattle.rules.specs.Standing.{Item}
 use Rattle.rules.specs.Taking.{Out, itemsIn}
 use Rattle.rules.specs.Table.{tableOf}
-use Rattle.rules.specs.Verdicts.{accepted, refused, refusedAt, invalidLength, mandatoryMissing, check, refuses, first, framingChecks, items, copyCheck, roomCheck, tableChecks, lentChecks, maskChecks, judgeChecks, maskVerdict, judgeVerdict, judgeTable, judgeNumbers, callVerdict, callTable}
+use Rattle.rules.specs.Types.{among}
+use Rattle.rules.specs.Verdicts.{accepted, refused, refusedAt, invalidLength, mandatoryMissing, check, refuses, first, framingChecks, items, copyCheck, roomCheck, tableChecks, lentChecks, maskChecks, judgeChecks, maskVerdict, judgeVerdict, judgeTable, judgeNumbers, framingNumbers, callVerdict, callTable}
 use Rattle.rules.specs.Sound.{sound}
 use Rattle.rules.specs.declared.Verdict.{Verdict}
 use Rattle.rules.proofs.Checks.{AllPass, all-pass, both-pass, first-append, check-off}
@@ -128,21 +129,24 @@ module _ (b : Book) (fine : sound b ≡ true) (k : ℕ) (m : List ℕ) where
         go (inr e) (yes l) = let z = mask-thirteen octets e l in no-copy e l (call-masked b k m octets room (rw z) ∙ z)
         go (inr e) (no l) = by-table e (omega arith) (roomy (omega arith))
 
-    -- a number up to 9 is one of 1 to 9, and so is given whatever is lent
-    pub alike : 0 < callVerdict b k m octets room .code → callVerdict b k m octets room .code ≤ 9
+    -- what one of checks 1 to 9 refuses is refused so whatever is lent
+    pub alike : among (callVerdict b k m octets room .code) framingNumbers ≡ true
         → (octets′ room′ : ℕ) → callVerdict b k m octets′ room′ ≡ callVerdict b k m octets room
-    alike u d octets′ room′ = go way
+    alike d octets′ room′ = go way
       where
-        above : {t : List ℕ} {v : Verdict} → Outcome b fine k m t room v → 0 < v .code → v .code ≤ 9 → ⊥
-        above (no-room l) u d = omega arith
-        above (too-short l r f) u d = omega arith
-        above (missing l s p j f) u d = omega arith
-        above (right l s n) u d = omega arith
+        never : false ≡ true → ⊥
+        never e = let y : _≡_ {A = ℕ} 0 1 = cc in absurd (omega arith)
+
+        above : {t : List ℕ} {v : Verdict} → Outcome b fine k m t room v → among (v .code) framingNumbers ≡ true → ⊥
+        above (no-room l) d = never d
+        above (too-short l r f) d = never d
+        above (missing l s p j f) d = never d
+        above (right l s n) d = never d
 
         go : Way → callVerdict b k m octets′ room′ ≡ callVerdict b k m octets room
         go (framed-out e z) = call-framing octets′ room′ e ∙ sym (call-framing octets room e)
-        go (no-copy e l z) = absurd (omega (arith, d, ap (λ (v : Verdict). v .code) z))
-        go (by-table e l z) = let t = tabled e in absurd (above (outcome b fine k m (t .0) (t .1 .0) (t .1 .1) room) (rw z at u) (rw z at d))
+        go (no-copy e l z) = absurd (never (rw z at d))
+        go (by-table e l z) = let t = tabled e in absurd (above (outcome b fine k m (t .0) (t .1 .0) (t .1 .1) room) (rw z at d))
 
     -- ---- what checks 1 to 12 say, carried over
 

@@ -122,7 +122,7 @@ module _ (b : Book) (k : ℕ) (m : List ℕ) where
         let c : whole is ≡ cut (x .0) (r .0) = sym e ∙ r .1 in let z : _≡_ {A = ℕ} 0 1 = cc in absurd (omega arith),
   )
 
-  framing-step : (vs : List Verdict) (cs : List (Type 0)) (j : ℕ) → j < 9 → Step (framingChecks b k m ++ vs) (framingConditions b k m ++ cs) j
+  framing-step : (vs : List Verdict) (cs : List (Type 0)) (j : ℕ) → j < 10 → Step (framingChecks b k m ++ vs) (framingConditions b k m ++ cs) j
   unfolding framingChecks headerChecks
   framing-step vs cs zero l p = chain (on _ (refused 1 0) refl) (not-is (among k (b .kinds)))
   framing-step vs cs (suc zero) l p =
@@ -132,18 +132,19 @@ module _ (b : Book) (k : ℕ) (m : List ℕ) where
   framing-step vs cs (suc (suc (suc (suc zero)))) l p = on _ (refused 5 0) refl
   framing-step vs cs (suc (suc (suc (suc (suc zero))))) l p = chain (on _ (refused 6 67) refl) (not-eq (lengthField m + 4) (length m))
   framing-step vs cs (suc (suc (suc (suc (suc (suc zero)))))) l p = chain (on _ (refused 7 0) refl) (not-is (isMessage b (messageType m)))
-  framing-step vs cs (suc (suc (suc (suc (suc (suc (suc zero))))))) l p = chain (on _ (refused 8 0) refl) (differ (flagT m) (messageOf b (messageType m) .teid))
-  framing-step vs cs (suc (suc (suc (suc (suc (suc (suc (suc zero)))))))) l p = cut-case (taken b k m) refl
-  framing-step vs cs (suc (suc (suc (suc (suc (suc (suc (suc (suc j))))))))) l p = absurd (omega arith)
+  framing-step vs cs (suc (suc (suc (suc (suc (suc (suc zero))))))) l p = chain (on _ (refused 21 0) refl) (not-is (among k (messageOf b (messageType m) .kinds)))
+  framing-step vs cs (suc (suc (suc (suc (suc (suc (suc (suc zero)))))))) l p = chain (on _ (refused 8 0) refl) (differ (flagT m) (messageOf b (messageType m) .teid))
+  framing-step vs cs (suc (suc (suc (suc (suc (suc (suc (suc (suc zero))))))))) l p = cut-case (taken b k m) refl
+  framing-step vs cs (suc (suc (suc (suc (suc (suc (suc (suc (suc (suc j)))))))))) l p = absurd (omega arith)
 
   -- ---- the lists of checks
 
-  -- checks 1 to 9 pass where none of the first nine applies
-  nine-pass : (vs : List Verdict) → ((i : ℕ) → i < 9 → refuses (getD (framingChecks b k m ++ vs) i accepted) ≡ false) → refuses (first (framingChecks b k m)) ≡ false
+  -- checks 1 to 9 pass where none of the first ten applies
+  nine-pass : (vs : List Verdict) → ((i : ℕ) → i < 10 → refuses (getD (framingChecks b k m ++ vs) i accepted) ≡ false) → refuses (first (framingChecks b k m)) ≡ false
   unfolding framingChecks headerChecks AllPass
   nine-pass vs p =
       all-pass (framingChecks b k m) .1
-      (p 0 (omega arith), (p 1 (omega arith), (p 2 (omega arith), (p 3 (omega arith), (p 4 (omega arith), (p 5 (omega arith), (p 6 (omega arith), (p 7 (omega arith), (p 8 (omega arith), tt)))))))))
+      (p 0 (omega arith), (p 1 (omega arith), (p 2 (omega arith), (p 3 (omega arith), (p 4 (omega arith), (p 5 (omega arith), (p 6 (omega arith), (p 7 (omega arith), (p 8 (omega arith), (p 9 (omega arith), tt))))))))))
 
 module _ (b : Book) (fine : sound b ≡ true) (k : ℕ) (m : List ℕ) where
   -- a message that passes 1 to 9: its elements, and what the laws about its rows ask
@@ -166,48 +167,48 @@ module _ (b : Book) (fine : sound b ≡ true) (k : ℕ) (m : List ℕ) where
   table-step room (suc (suc zero)) l e = lack-words e
   table-step room (suc (suc (suc i))) l e = absurd (omega arith)
 
-  judge-last : (room i : ℕ) → i < 3 → Step (judgeChecks b k m room) (judgeConditions b k m room) (suc (suc (suc (suc (suc (suc (suc (suc (suc i)))))))))
+  judge-last : (room i : ℕ) → i < 3 → Step (judgeChecks b k m room) (judgeConditions b k m room) (suc (suc (suc (suc (suc (suc (suc (suc (suc (suc i))))))))))
   unfolding judgeChecks framingChecks headerChecks
   judge-last room i l p = table-step room i l (nine-pass b k m (tableChecks b k m room) (λ x h. p x (omega arith)))
 
-  pub judge-step : (room j : ℕ) → j < 12 → Step (judgeChecks b k m room) (judgeConditions b k m room) j
+  pub judge-step : (room j : ℕ) → j < 13 → Step (judgeChecks b k m room) (judgeConditions b k m room) j
   unfolding judgeChecks
-  judge-step room j l = go (decLt j 9)
+  judge-step room j l = go (decLt j 10)
     where
-      go : Dec (j < 9) → Step (judgeChecks b k m room) (judgeConditions b k m room) j
+      go : Dec (j < 10) → Step (judgeChecks b k m room) (judgeConditions b k m room) j
       go (yes h) = framing-step b k m (tableChecks b k m room) (tableConditions b k m room) j h
-      go (no h) = let z : j ≡ suc (suc (suc (suc (suc (suc (suc (suc (suc (j - 9))))))))) = omega arith in rw z (judge-last room (j - 9) (omega arith))
+      go (no h) = let z : j ≡ suc (suc (suc (suc (suc (suc (suc (suc (suc (suc (j - 10)))))))))) = omega arith in rw z (judge-last room (j - 10) (omega arith))
 
-  call-last : (octets room i : ℕ) → i < 4 → Step (callChecks b k m octets room) (callConditions b k m octets room) (suc (suc (suc (suc (suc (suc (suc (suc (suc i)))))))))
+  call-last : (octets room i : ℕ) → i < 4 → Step (callChecks b k m octets room) (callConditions b k m octets room) (suc (suc (suc (suc (suc (suc (suc (suc (suc (suc i))))))))))
   unfolding callChecks framingChecks headerChecks
   call-last octets room zero l p = chain (on _ (refused 13 0) refl) (lt-is octets (length m))
   call-last octets room (suc i) l p = table-step room i (omega arith) (nine-pass b k m (copyCheck b k m octets ∷ tableChecks b k m room) (λ x h. p x (omega arith)))
 
-  pub call-step : (octets room j : ℕ) → j < 13 → Step (callChecks b k m octets room) (callConditions b k m octets room) j
+  pub call-step : (octets room j : ℕ) → j < 14 → Step (callChecks b k m octets room) (callConditions b k m octets room) j
   unfolding callChecks
-  call-step octets room j l = go (decLt j 9)
+  call-step octets room j l = go (decLt j 10)
     where
-      go : Dec (j < 9) → Step (callChecks b k m octets room) (callConditions b k m octets room) j
+      go : Dec (j < 10) → Step (callChecks b k m octets room) (callConditions b k m octets room) j
       go (yes h) = framing-step b k m (copyCheck b k m octets ∷ tableChecks b k m room) (copyConditions b k m octets ++ tableConditions b k m room) j h
-      go (no h) = let z : j ≡ suc (suc (suc (suc (suc (suc (suc (suc (suc (j - 9))))))))) = omega arith in rw z (call-last octets room (j - 9) (omega arith))
+      go (no h) = let z : j ≡ suc (suc (suc (suc (suc (suc (suc (suc (suc (suc (j - 10)))))))))) = omega arith in rw z (call-last octets room (j - 10) (omega arith))
 
-  pub judge-words : (room j : ℕ) → j < 12 → (judgeVerdict b k m room .code ≡ getD judgeNumbers j 0) ↔ OwnWords (judgeConditions b k m room) j
+  pub judge-words : (room j : ℕ) → j < 13 → (judgeVerdict b k m room .code ≡ getD judgeNumbers j 0) ↔ OwnWords (judgeConditions b k m room) j
   judge-words room j l = chain (judge-case b k m room j l) (own-words (judgeChecks b k m room) (judgeConditions b k m room) j (λ i h. judge-step room i (omega arith)))
 
-  pub call-words : (octets room j : ℕ) → j < 13 → (callVerdict b k m octets room .code ≡ getD callNumbers j 0) ↔ OwnWords (callConditions b k m octets room) j
+  pub call-words : (octets room j : ℕ) → j < 14 → (callVerdict b k m octets room .code ≡ getD callNumbers j 0) ↔ OwnWords (callConditions b k m octets room) j
   call-words octets room j l =
       chain (call-case b k m octets room j l) (own-words (callChecks b k m octets room) (callConditions b k m octets room) j (λ i h. call-step octets room i (omega arith)))
 
 module _ (b : Book) (k : ℕ) (m : List ℕ) (room : ℕ) where
-  pub judge-count : length (judgeChecks b k m room) ≡ 12
+  pub judge-count : length (judgeChecks b k m room) ≡ 13
   unfolding judgeChecks framingChecks headerChecks
   judge-count = refl
 
-  pub call-count : (octets : ℕ) → length (callChecks b k m octets room) ≡ 13
+  pub call-count : (octets : ℕ) → length (callChecks b k m octets room) ≡ 14
   unfolding callChecks framingChecks headerChecks
   call-count octets = refl
 
-  pub clean-count : length (cleanChecks b k m room) ≡ 12
+  pub clean-count : length (cleanChecks b k m room) ≡ 13
   unfolding cleanChecks framingChecks headerChecks
   clean-count = refl
 
@@ -236,7 +237,7 @@ module _ (b : Book) (k : ℕ) (m : List ℕ) where
   cut-says (cut q is) e x = (q, cut-met b k (bodyLevel b m) (headerLength m) (drop (headerLength m) m) q is e, refl)
   cut-says (whole is) e x = let z : _≡_ {A = ℕ} 0 1 = cc in absurd (omega arith)
 
-  framing-says : (vs : List Verdict) (ws : List (Verdict → Type 0)) (j : ℕ) → j < 9 → Says (framingChecks b k m ++ vs) (framingWords b k m ++ ws) j
+  framing-says : (vs : List Verdict) (ws : List (Verdict → Type 0)) (j : ℕ) → j < 10 → Says (framingChecks b k m ++ vs) (framingWords b k m ++ ws) j
   unfolding framingChecks headerChecks
   framing-says vs ws zero l o = says-own _ (refused 1 0) (o .applies)
   framing-says vs ws (suc zero) l o = says-own _ (refused 2 0) (o .applies)
@@ -245,9 +246,10 @@ module _ (b : Book) (k : ℕ) (m : List ℕ) where
   framing-says vs ws (suc (suc (suc (suc zero)))) l o = says-own _ (refused 5 0) (o .applies)
   framing-says vs ws (suc (suc (suc (suc (suc zero))))) l o = says-own _ (refused 6 67) (o .applies)
   framing-says vs ws (suc (suc (suc (suc (suc (suc zero)))))) l o = says-own _ (refused 7 0) (o .applies)
-  framing-says vs ws (suc (suc (suc (suc (suc (suc (suc zero))))))) l o = says-own _ (refused 8 0) (o .applies)
-  framing-says vs ws (suc (suc (suc (suc (suc (suc (suc (suc zero)))))))) l o = cut-says (taken b k m) refl (o .applies)
-  framing-says vs ws (suc (suc (suc (suc (suc (suc (suc (suc (suc j))))))))) l o = absurd (omega arith)
+  framing-says vs ws (suc (suc (suc (suc (suc (suc (suc zero))))))) l o = says-own _ (refused 21 0) (o .applies)
+  framing-says vs ws (suc (suc (suc (suc (suc (suc (suc (suc zero)))))))) l o = says-own _ (refused 8 0) (o .applies)
+  framing-says vs ws (suc (suc (suc (suc (suc (suc (suc (suc (suc zero))))))))) l o = cut-says (taken b k m) refl (o .applies)
+  framing-says vs ws (suc (suc (suc (suc (suc (suc (suc (suc (suc (suc j)))))))))) l o = absurd (omega arith)
 
 module _ (b : Book) (fine : sound b ≡ true) (k : ℕ) (m : List ℕ) (room : ℕ) where
   -- 10 to 12, where 1 to 9 pass
@@ -262,28 +264,28 @@ module _ (b : Book) (fine : sound b ≡ true) (k : ℕ) (m : List ℕ) (room : �
       rw w (missing-first b fine k m (tableOf (messageType m) k es) es (own-begins (messageType m) k es) (walked-of b k m es w) (f .0 .listed) (rw w at a))
   table-says (suc (suc (suc i))) l e a = absurd (omega arith)
 
-  call-later : (octets i : ℕ) → i < 4 → Says (callChecks b k m octets room) (callWords b k m) (suc (suc (suc (suc (suc (suc (suc (suc (suc i)))))))))
+  call-later : (octets i : ℕ) → i < 4 → Says (callChecks b k m octets room) (callWords b k m) (suc (suc (suc (suc (suc (suc (suc (suc (suc (suc i))))))))))
   unfolding callChecks framingChecks headerChecks
   call-later octets zero l o = says-own _ (refused 13 0) (o .applies)
   call-later octets (suc i) l o =
       table-says i (omega arith) (nine-pass b k m (copyCheck b k m octets ∷ tableChecks b k m room) (λ x h. o .none-before x (omega arith))) (o .applies)
 
-  call-saying : (octets j : ℕ) → j < 13 → Says (callChecks b k m octets room) (callWords b k m) j
+  call-saying : (octets j : ℕ) → j < 14 → Says (callChecks b k m octets room) (callWords b k m) j
   unfolding callChecks
-  call-saying octets j l = go (decLt j 9)
+  call-saying octets j l = go (decLt j 10)
     where
-      go : Dec (j < 9) → Says (callChecks b k m octets room) (callWords b k m) j
+      go : Dec (j < 10) → Says (callChecks b k m octets room) (callWords b k m) j
       go (yes h) = framing-says b k m (copyCheck b k m octets ∷ tableChecks b k m room) (copyWords b k m ++ tableWords b k m) j h
-      go (no h) = let z : j ≡ suc (suc (suc (suc (suc (suc (suc (suc (suc (j - 9))))))))) = omega arith in rw z (call-later octets (j - 9) (omega arith))
+      go (no h) = let z : j ≡ suc (suc (suc (suc (suc (suc (suc (suc (suc (suc (j - 10)))))))))) = omega arith in rw z (call-later octets (j - 10) (omega arith))
 
   -- 9 alone, with no copy asked for
   pub nine-says : judgeVerdict b k m room .code ≡ 9 → (q : ℕ) × CutIn b k m q × (judgeVerdict b k m room ≡ refusedAt 9 invalidLength q 0 0)
   unfolding judgeChecks
   nine-says e =
-      let o = judge-case b k m room 8 (omega arith) .0 e in
-      rw (own-says (judgeChecks b k m room) 8 (omega (arith, judge-count b k m room)) o) (framing-says b k m (tableChecks b k m room) (tableWords b k m) 8 (omega arith) o)
+      let o = judge-case b k m room 9 (omega arith) .0 e in
+      rw (own-says (judgeChecks b k m room) 9 (omega (arith, judge-count b k m room)) o) (framing-says b k m (tableChecks b k m room) (tableWords b k m) 9 (omega arith) o)
 
-  pub call-says : (octets j : ℕ) → j < 13 → callVerdict b k m octets room .code ≡ getD callNumbers j 0 → getD (callWords b k m) j (λ v. ⊥) (callVerdict b k m octets room)
+  pub call-says : (octets j : ℕ) → j < 14 → callVerdict b k m octets room .code ≡ getD callNumbers j 0 → getD (callWords b k m) j (λ v. ⊥) (callVerdict b k m octets room)
   call-says octets j l e =
       let o = call-case b k m octets room j l .0 e in
       rw (own-says (callChecks b k m octets room) j (omega (arith, call-count b k m room octets)) o) (call-saying octets j l o)

@@ -67,7 +67,7 @@ module _ (b : Book) (fine : sound b ≡ true) (k : ℕ) (m : List ℕ) where
       where
         to : judgeVerdict b k m room ≡ refusedAt 9 invalidLength q 0 0 → Passed b k m × ((t : List ℕ) × IsCut b k m t q)
         to w =
-            let o = judge-words b fine k m room 8 (omega arith) .0 (ap (λ (u : Verdict). u .code) w) in
+            let o = judge-words b fine k m room 9 (omega arith) .0 (ap (λ (u : Verdict). u .code) w) in
             let p = passed-of b fine k m (tableConditions b k m room) (o .none-before) in
             let s = says (refusedAt 9 invalidLength q 0 0) w refl in
             let z : q ≡ s .0 = ap (λ (u : Verdict). u .place) (s .2) in
@@ -77,6 +77,6 @@ module _ (b : Book) (fine : sound b ≡ true) (k : ℕ) (m : List ℕ) where
         from : Passed b k m × ((t : List ℕ) × IsCut b k m t q) → judgeVerdict b k m room ≡ refusedAt 9 invalidLength q 0 0
         from (p, x) =
             let d = cut-iff p q .1 x in
-            let c = judge-words b fine k m room 8 (omega arith) .1 (record { holds = (q, d); none-before = passed-none b fine k m (tableConditions b k m room) p }) in
+            let c = judge-words b fine k m room 9 (omega arith) .1 (record { holds = (q, d); none-before = passed-none b fine k m (tableConditions b k m room) p }) in
             let s = says (judgeVerdict b k m room) refl c in
             s .2 ∙ ap (λ (o : ℕ). refusedAt 9 invalidLength o 0 0) (one-place (s .0) q (s .1) d)

@@ -50,10 +50,10 @@ module _ (b : Book) (fine : sound b ≡ true) (k : ℕ) (m : List ℕ) where
       where
         to : judgeVerdict b k m room .code ≡ 9 → Passed b k m × ((t : List ℕ) → IsTable b k m t → ⊥)
         to e =
-            let o = judge-words b fine k m room 8 (omega arith) .0 e in
+            let o = judge-words b fine k m room 9 (omega arith) .0 e in
             let h : (q : ℕ) × CutIn b k m q = o .holds in
             let c = cut-in (h .0) (h .1) in
             (passed-of b fine k m (tableConditions b k m room) (o .none-before), cut-none (h .0) (c .0) (c .1))
 
         from : Passed b k m × ((t : List ℕ) → IsTable b k m t → ⊥) → judgeVerdict b k m room .code ≡ 9
-        from (p, none) = judge-words b fine k m room 8 (omega arith) .1 (record { holds = none-cut p none; none-before = passed-none b fine k m (tableConditions b k m room) p })
+        from (p, none) = judge-words b fine k m room 9 (omega arith) .1 (record { holds = none-cut p none; none-before = passed-none b fine k m (tableConditions b k m room) p })

@@ -46,7 +46,7 @@ below a c f = go (decLt a c)
 
 -- whatever conditions follow
 module _ (b : Book) (fine : sound b ≡ true) (k : ℕ) (m : List ℕ) (cs : List (Type 0)) where
-  pub passed-of : ((i : ℕ) → i < 8 → getD (framingConditions b k m ++ cs) i ⊥ → ⊥) → Passed b k m
+  pub passed-of : ((i : ℕ) → i < 9 → getD (framingConditions b k m ++ cs) i ⊥ → ⊥) → Passed b k m
   passed-of none = record {
     kind = not-false (among k (b .kinds)) (none 0 (omega arith));
     some = below (length m) 1 (λ h. none 1 (omega arith) (inl (omega arith)));
@@ -56,10 +56,11 @@ module _ (b : Book) (fine : sound b ≡ true) (k : ℕ) (m : List ℕ) (cs : Lis
     no-p = not-true (flagP m) (none 4 (omega arith));
     length-right = same-number (lengthField m + 4) (length m) (none 5 (omega arith));
     listed = not-false (isMessage b (messageType m)) (none 6 (omega arith));
-    t-right = same-bool (flagT m) (messageOf b (messageType m) .teid) (none 7 (omega arith));
+    on-kind = not-false (among k (messageOf b (messageType m) .kinds)) (none 7 (omega arith));
+    t-right = same-bool (flagT m) (messageOf b (messageType m) .teid) (none 8 (omega arith));
   }
 
-  pub passed-none : Passed b k m → (i : ℕ) → i < 8 → getD (framingConditions b k m ++ cs) i ⊥ → ⊥
+  pub passed-none : Passed b k m → (i : ℕ) → i < 9 → getD (framingConditions b k m ++ cs) i ⊥ → ⊥
   passed-none p zero l c = clash (among k (b .kinds)) (p .kind) c
   passed-none p (suc zero) l (inl c) = omega (arith, c, p .some)
   passed-none p (suc zero) l (inr c) = omega (arith, c, p .most)
@@ -68,10 +69,11 @@ module _ (b : Book) (fine : sound b ≡ true) (k : ℕ) (m : List ℕ) (cs : Lis
   passed-none p (suc (suc (suc (suc zero)))) l c = clash (flagP m) c (p .no-p)
   passed-none p (suc (suc (suc (suc (suc zero))))) l c = c (p .length-right)
   passed-none p (suc (suc (suc (suc (suc (suc zero)))))) l c = clash (isMessage b (messageType m)) (p .listed) c
-  passed-none p (suc (suc (suc (suc (suc (suc (suc zero))))))) l c = c (p .t-right)
-  passed-none p (suc (suc (suc (suc (suc (suc (suc (suc i)))))))) l c = omega arith
+  passed-none p (suc (suc (suc (suc (suc (suc (suc zero))))))) l c = clash (among k (messageOf b (messageType m) .kinds)) (p .on-kind) c
+  passed-none p (suc (suc (suc (suc (suc (suc (suc (suc zero)))))))) l c = c (p .t-right)
+  passed-none p (suc (suc (suc (suc (suc (suc (suc (suc (suc i))))))))) l c = omega arith
 
-  pub has-table : ((i : ℕ) → i < 9 → getD (framingConditions b k m ++ cs) i ⊥ → ⊥) → Passed b k m × ((t : List ℕ) × IsTable b k m t)
+  pub has-table : ((i : ℕ) → i < 10 → getD (framingConditions b k m ++ cs) i ⊥ → ⊥) → Passed b k m × ((t : List ℕ) × IsTable b k m t)
   unfolding taken
   has-table none = go (taken b k m) refl
     where
@@ -79,8 +81,8 @@ module _ (b : Book) (fine : sound b ≡ true) (k : ℕ) (m : List ℕ) (cs : Lis
       p = passed-of (λ i l. none i (omega arith))
 
       go : (o : Out (List Item)) → taken b k m ≡ o → Passed b k m × ((t : List ℕ) × IsTable b k m t)
-      go (cut q is) e = absurd (none 8 (omega arith) (q, cut-met b k (bodyLevel b m) (headerLength m) (drop (headerLength m) m) q is e))
+      go (cut q is) e = absurd (none 9 (omega arith) (q, cut-met b k (bodyLevel b m) (headerLength m) (drop (headerLength m) m) q is e))
       go (whole is) e = (p, (tableOf (messageType m) k is, is-table b fine k m (tableOf (messageType m) k is) is (own-begins (messageType m) k is) e (p .has-header) (p .listed) (own-of k m is)))
 
-pub passed-iff : (b : Book) → sound b ≡ true → (k : ℕ) (m : List ℕ) → Passed b k m ↔ NoneHolds (framingConditions b k m) 8
+pub passed-iff : (b : Book) → sound b ≡ true → (k : ℕ) (m : List ℕ) → Passed b k m ↔ NoneHolds (framingConditions b k m) 9
 passed-iff b fine k m = (passed-none b fine k m [], passed-of b fine k m [])

@@ -130,7 +130,7 @@ module _ (b : Book) (fine : sound b ≡ true) (k : ℕ) (m : List ℕ) where
 
   -- ---- a message that gets 10, 11 or 12 has its table
 
-  reached : (room n : ℕ) → 9 ≤ n → n < 12 → judgeVerdict b k m room .code ≡ getD judgeNumbers n 0 → Passed b k m × ((t : List ℕ) × IsTable b k m t)
+  reached : (room n : ℕ) → 10 ≤ n → n < 13 → judgeVerdict b k m room .code ≡ getD judgeNumbers n 0 → Passed b k m × ((t : List ℕ) × IsTable b k m t)
   reached room n l u z = has-table b fine k m (tableConditions b k m room) (λ i c. judge-words b fine k m room n u .0 z .none-before i (omega arith))
 
   -- ---- each number by its words
@@ -150,7 +150,7 @@ module _ (b : Book) (fine : sound b ≡ true) (k : ℕ) (m : List ℕ) where
 
     pub ten-iff : (judgeVerdict b k m room .code ≡ 10) ↔ (Passed b k m × ((t : List ℕ) × IsTable b k m t × (room < used (rows t))))
     ten-iff = (
-      λ z. let c = reached room 9 (omega arith) (omega arith) z in (c .0, (c .1 .0, c .1 .1, ten-of (outcome (c .0) (c .1 .0) (c .1 .1) room) z)),
+      λ z. let c = reached room 10 (omega arith) (omega arith) z in (c .0, (c .1 .0, c .1 .1, ten-of (outcome (c .0) (c .1 .0) (c .1 .1) room) z)),
       λ c. of-ten (outcome (c .0) (c .1 .0) (c .1 .1) room) (c .1 .2),
     )
 
@@ -173,7 +173,7 @@ module _ (b : Book) (fine : sound b ≡ true) (k : ℕ) (m : List ℕ) where
 
     pub eleven-iff : (judgeVerdict b k m room .code ≡ 11) ↔ Short
     eleven-iff = (
-      λ z. let c = reached room 10 (omega arith) (omega arith) z in
+      λ z. let c = reached room 11 (omega arith) (omega arith) z in
           let o = eleven-of (outcome (c .0) (c .1 .0) (c .1 .1) room) z in (c .0, (c .1 .0, c .1 .1, o .0, (o .1 .0, o .1 .1 .is-short))),
       λ c. of-eleven (outcome (c .0) (c .1 .0) (c .1 .1) room) (c .1 .2) (c .1 .3 .0) (c .1 .3 .1),
     )
@@ -198,7 +198,7 @@ module _ (b : Book) (fine : sound b ≡ true) (k : ℕ) (m : List ℕ) where
 
     pub twelve-iff : (judgeVerdict b k m room .code ≡ 12) ↔ Missing
     twelve-iff = (
-      λ z. let c = reached room 11 (omega arith) (omega arith) z in
+      λ z. let c = reached room 12 (omega arith) (omega arith) z in
           let o = twelve-of (outcome (c .0) (c .1 .0) (c .1 .1) room) z in (c .0, (c .1 .0, c .1 .1, o .0, o .1, (o .2 .0, o .2 .1, o .2 .2 .lacks))),
       λ c. of-twelve (outcome (c .0) (c .1 .0) (c .1 .1) room) (c .1 .2) (c .1 .3) (c .1 .4 .0) (c .1 .4 .1) (c .1 .4 .2),
     )
@@ -214,7 +214,7 @@ module _ (b : Book) (fine : sound b ≡ true) (k : ℕ) (m : List ℕ) where
         where
           to : judgeVerdict b k m room ≡ refusedAt 11 invalidLength q y i → ShortAt
           to w =
-              let c = reached room 10 (omega arith) (omega arith) (ap (λ (u : Verdict). u .code) w) in
+              let c = reached room 11 (omega arith) (omega arith) (ap (λ (u : Verdict). u .code) w) in
               let o = eleven-of (outcome (c .0) (c .1 .0) (c .1 .1) room) (ap (λ (u : Verdict). u .code) w) in
               let z : refusedAt 11 invalidLength q y i ≡ shortOf (c .1 .0) (o .1 .0) = sym w ∙ o .1 .2 in (
                 c .0,
@@ -247,7 +247,7 @@ module _ (b : Book) (fine : sound b ≡ true) (k : ℕ) (m : List ℕ) where
         where
           to : judgeVerdict b k m room ≡ refusedAt 12 mandatoryMissing q y i → MissingAt
           to w =
-              let c = reached room 11 (omega arith) (omega arith) (ap (λ (u : Verdict). u .code) w) in
+              let c = reached room 12 (omega arith) (omega arith) (ap (λ (u : Verdict). u .code) w) in
               let o = twelve-of (outcome (c .0) (c .1 .0) (c .1 .1) room) (ap (λ (u : Verdict). u .code) w) in
               let z : refusedAt 12 mandatoryMissing q y i ≡ lackOf (c .1 .0) (o .2 .0) (o .2 .1) = sym w ∙ o .2 .3 in (
                 c .0,

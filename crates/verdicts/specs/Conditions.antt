@@ -43,6 +43,7 @@ module _ (b : Book) (k : ℕ) (m : List ℕ) where
       ∷ (flagP m ≡ true)
       ∷ (lengthField m + 4 ≢ length m)
       ∷ (isMessage b (messageType m) ≡ false)
+      ∷ (among k (messageOf b (messageType m) .kinds) ≡ false)
       ∷ (flagT m ≢ messageOf b (messageType m) .teid)
       ∷ ((q : ℕ) × CutIn q)
       ∷ []
@@ -77,6 +78,7 @@ module _ (b : Book) (k : ℕ) (m : List ℕ) where
       ∷ (λ v. v ≡ refused 5 0)
       ∷ (λ v. v ≡ refused 6 invalidLength)
       ∷ (λ v. v ≡ refused 7 0)
+      ∷ (λ v. v ≡ refused 21 0)
       ∷ (λ v. v ≡ refused 8 0)
       ∷ (λ v. (q : ℕ) × CutIn q × (v ≡ refusedAt 9 invalidLength q 0 0))
       ∷ []

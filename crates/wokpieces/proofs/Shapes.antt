@@ -7,7 +7,7 @@ use Prim.Native.Nat.{ℕ, zero, suc, _+_, _-_, _≤_, _<_}
 use native.Mathlib.Omega.{arith}
 use borrow.Author.Tests.{leb-true}
 use lib.Dec.{eqb, ltb, leb}
-use lib.ListN.{length, getD, set, drop, length-set}
+use lib.ListN.{length, getD, set, drop, replicate, length-set}
 use Rattle.rules.specs.Sizes.{headerNumbers}
 use Rattle.rules.specs.Framing.{elementHeader, valueLength, lengthField, headerLength}
 use Rattle.rules.specs.Listings.{book}
@@ -42,20 +42,17 @@ use Rattle.keeping.specs.Kept.{Formed, nth}
 
 pub record Shaped (w : Going) : Type 0 where
   pub bytes : length (w .some) ≡ 4
-  pub slots : length (w .levels) ≡ 2
-  pub marks : (i : ℕ) → i < 2 → length (getD (w .levels) i noOpen .marks) ≡ 32
+  pub slots : length (w .levels) ≡ deepest
+  pub marks : (i : ℕ) → i < deepest → length (getD (w .levels) i noOpen .marks) ≡ 32
 
 -- a level is set, with marks of the right length
-set-marks : (fs : List Open) (j : ℕ) (f : Open) → length fs ≡ 2 → length (f .marks) ≡ 32 → ((i : ℕ) → i < 2 → length (getD fs i noOpen .marks) ≡ 32) → (i : ℕ) → i < 2
+set-marks : (fs : List Open) (j : ℕ) (f : Open) → length (f .marks) ≡ 32 → {n : ℕ} → ((i : ℕ) → i < n → length (getD fs i noOpen .marks) ≡ 32) → (i : ℕ) → i < n
     → length (getD (set fs j f) i noOpen .marks) ≡ 32
-set-marks [] j f l n m i k = m i k
-set-marks (g ∷ fs) zero f l n m zero k = n
-set-marks (g ∷ fs) zero f l n m (suc i) k = m (suc i) k
-set-marks (g ∷ fs) (suc j) f l n m zero k = m 0 k
-set-marks (g ∷ []) (suc j) f l n m (suc i) k = m (suc i) k
-set-marks (g ∷ h ∷ fs) (suc zero) f l n m (suc zero) k = n
-set-marks (g ∷ h ∷ fs) (suc (suc j)) f l n m (suc zero) k = m 1 k
-set-marks (g ∷ h ∷ fs) (suc j) f l n m (suc (suc i)) k = absurd (omega arith)
+set-marks [] j f l m i k = m i k
+set-marks (g ∷ fs) zero f l m zero k = l
+set-marks (g ∷ fs) zero f l m (suc i) k = m (suc i) k
+set-marks (g ∷ fs) (suc j) f l m zero k = m 0 k
+set-marks (g ∷ fs) (suc j) f l {n} m (suc i) k = set-marks fs j f l {n = n - 1} (λ a b. m (suc a) (omega arith)) i (omega arith)
 
 -- the same arrays
 same-shape : {w v : Going} → v .some ≡ w .some → v .levels ≡ w .levels → Shaped w → Shaped v
@@ -91,7 +88,7 @@ module _ (k : ℕ) where
 
   -- ---- one element
 
-  module _ (w : Going) (s : Shaped w) (deep : w .depth ≤ 2) where
+  module _ (w : Going) (s : Shaped w) (deep : w .depth ≤ deepest) where
     on-marks : (h : Element) → length (nextOpen k w h .marks) ≡ 32
     on-marks h = marked-length book k (topOf w .level) (topOf w .marks) h ∙ s .marks (w .depth - 1) (omega arith)
 
@@ -102,7 +99,7 @@ module _ (k : ℕ) where
       past = record {
         bytes = rw some (s .bytes);
         slots = rw (levels, depth) (length-set (w .levels) (w .depth - 1) (nextOpen k w h) ∙ s .slots);
-        marks = rw (levels, depth) (set-marks (w .levels) (w .depth - 1) (nextOpen k w h) (s .slots) (on-marks h) (s .marks));
+        marks = rw (levels, depth) (set-marks (w .levels) (w .depth - 1) (nextOpen k w h) (on-marks h) (s .marks));
       }
 
       within : Shaped (into v (nextOpen k w h) (enters k w h) (h .len) x came c)
@@ -114,7 +111,7 @@ module _ (k : ℕ) where
           record {
             bytes = rw some (length-set (w .some) 0 x ∙ s .bytes);
             slots = rw (levels, depth) (length-set fs (w .depth) f ∙ n);
-            marks = rw (levels, depth) (set-marks fs (w .depth) f n refl (set-marks (w .levels) (w .depth - 1) (nextOpen k w h) (s .slots) (on-marks h) (s .marks)));
+            marks = rw (levels, depth) (set-marks fs (w .depth) f refl (set-marks (w .levels) (w .depth - 1) (nextOpen k w h) (on-marks h) (s .marks)));
           }
 
       either : (a d : Bool) → Shaped (cond a (beyond v (nextOpen k w h) (h .len) came c) (cond d (into v (nextOpen k w h) (enters k w h) (h .len) x came c) (beyond v (nextOpen k w h) (h .len) came c)))
@@ -151,11 +148,11 @@ module _ (k : ℕ) where
   unfolding gatherBy
   gather-shape w x s = record { bytes = length-set (w .some) (w .have) x ∙ s .bytes; slots = s .slots; marks = s .marks }
 
-  same-depth : (w : Going) (x : ℕ) → w .depth ≤ 2 → gatherBy w x .depth ≤ 2
+  same-depth : (w : Going) (x : ℕ) → w .depth ≤ deepest → gatherBy w x .depth ≤ deepest
   unfolding gatherBy
   same-depth w x l = l
 
-  eat-shape : (w : Going) (x : ℕ) (rows : List ℕ) → Shaped w → w .depth ≤ 2 → Shaped (eatBy k w x rows .going)
+  eat-shape : (w : Going) (x : ℕ) (rows : List ℕ) → Shaped w → w .depth ≤ deepest → Shaped (eatBy k w x rows .going)
   unfolding eatBy passOne
   eat-shape w x rows s deep = go (w .stopped) (ltb 0 (w .pass)) (eqb (w .depth) 0) (ltb (w .have) 3) (eqb (w .have) 3)
     where
@@ -169,23 +166,18 @@ module _ (k : ℕ) where
 
 -- ---- the message
 
+blank-marks : (n i : ℕ) → i < n → length (getD (replicate n blankOpen) i noOpen .marks) ≡ 32
+blank-marks zero i l = absurd (omega arith)
+blank-marks (suc n) zero l = refl
+blank-marks (suc n) (suc i) l = blank-marks n i (omega arith)
+
 idle-shape : Shaped (idleBy noCounts)
 unfolding idleBy
-idle-shape = record { bytes = refl; slots = refl; marks = go }
-  where
-    go : (i : ℕ) → i < 2 → length (getD (blankOpen ∷ blankOpen ∷ []) i noOpen .marks) ≡ 32
-    go zero l = refl
-    go (suc zero) l = refl
-    go (suc (suc i)) l = absurd (omega arith)
+idle-shape = record { bytes = refl; slots = refl; marks = blank-marks deepest }
 
 entry-shape : (h : List ℕ) → Shaped (entryBy h)
 unfolding entryBy
-entry-shape h = record { bytes = refl; slots = refl; marks = go }
-  where
-    go : (i : ℕ) → i < 2 → length (getD (opened (bodyLevel book h) 0 0 (lengthField h + 4 - headerLength h) ∷ blankOpen ∷ []) i noOpen .marks) ≡ 32
-    go zero l = refl
-    go (suc zero) l = refl
-    go (suc (suc i)) l = absurd (omega arith)
+entry-shape h = record { bytes = refl; slots = refl; marks = set-marks (replicate deepest blankOpen) 0 _ refl (blank-marks deepest) }
 
 body-shape : (k : ℕ) (h : List ℕ) → Shaped (bodyBy k h)
 unfolding bodyBy
@@ -255,4 +247,4 @@ unfolding endedBy
 sane-end p s = record { head = s .head; walk = s .walk }
 
 pub formed : {p : Pieces} → Sane p → Formed p
-formed s = record { head-four = s .head; some-four = s .walk .bytes; levels-two = s .walk .slots; marks-first = s .walk .marks 0 (omega arith); marks-second = s .walk .marks 1 (omega arith) }
+formed s = record { head-four = s .head; some-four = s .walk .bytes; levels-all = s .walk .slots; marks-all = s .walk .marks }

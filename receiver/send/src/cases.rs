@@ -8,9 +8,10 @@ const LONGEST_MESSAGE: usize = 4_096;
 const TABLE_OCTETS: usize = 2 * (6 + 6 * 1_022);
 const FIVE_OCTETS: usize = 10;
 const ANSWER_OCTETS: usize = 12;
-const CODES: usize = 14;
-/// Codes that no datagram gets: each port has its kind, and the buffers are large enough.
-const NEVER: [usize; 3] = [1, 10, 13];
+const KINDS: std::ops::RangeInclusive<u32> = 1..=4;
+const CODES: usize = 22;
+/// Codes that no datagram gets: each port has its kind, the buffers are large enough, and from 14 on they are not of judge and cleaner but 21.
+const NEVER: [usize; 10] = [1, 10, 13, 14, 15, 16, 17, 18, 19, 20];
 
 pub type Counts = Vec<usize>;
 
@@ -32,6 +33,12 @@ impl Sent {
         self.case.kind as usize - 1
     }
 
+    /// Whether it is accepted with an element in a group in a group.
+    pub fn is_deep(&self) -> bool {
+        let rows = second::DOCUMENT.rows(self.case.kind, &self.case.message).unwrap_or_default();
+        self.judge[1] == 0 && rows.iter().any(|row| row.parent != 0 && rows[usize::from(row.parent) - 1].parent != 0)
+    }
+
     pub fn answer(&self) -> Vec<u8> {
         [&self.judge[..], &self.clean].concat()
     }
@@ -45,8 +52,8 @@ impl Sent {
 /// So many datagrams: those at the edges of size first, then generated ones, and an Echo Request whose cleaned copy is shorter than its
 /// masked one.
 pub fn cases(count: usize) -> Vec<Sent> {
-    let edges = (1..=3).flat_map(|kind| edges().map(|message| Case { kind, message }));
-    let fits = |case: &Case| (1..=3).contains(&case.kind) && case.message.len() <= LONGEST;
+    let edges = KINDS.flat_map(|kind| edges().map(|message| Case { kind, message }));
+    let fits = |case: &Case| KINDS.contains(&case.kind) && case.message.len() <= LONGEST;
     let generated = Generator::new(SEED).filter(fits);
     let last = Case { kind: 1, message: vec![0x40, 1, 0, 15, 0, 0, 1, 0, 3, 0, 1, 0, 7, 200, 0, 2, 0, 1, 2] };
     edges.chain(generated).take(count - 1).chain([last]).map(Sent::new).collect()

@@ -52,6 +52,7 @@ fn run(program: &str, options: &[String]) -> Outcome<(u32, u32)> {
         ("judge counts", printed(&total, "judge", judge.len())? == judge),
         ("clean counts", printed(&total, "clean", clean.len())? == clean),
         ("every code a datagram can get", cases::all_reached(&judge) && cases::all_reached(&clean)),
+        ("three levels deep on S10", sent.iter().filter(|one| one.case.kind == 4 && one.is_deep()).count() >= 50),
         ("masked copies", printed(&total, "copies", 1)? == [cases::copies(&judge)]),
         ("in parts as whole", printed(&total, "unlike", 1)? == [0]),
         ("the last masked copy", printed(&total, "copy", 1)? == [last.case.message.len()]),

@@ -20,7 +20,7 @@ impl Receiver {
         let mut child = Command::new(program)
             .arg("--answer")
             .args(options)
-            .args(["0", "0", "0"])
+            .args(["0"; 4])
             .stdout(Stdio::piped())
             .spawn()
             .map_err(|error| format!("{program}: {error}"))?;
@@ -29,8 +29,8 @@ impl Receiver {
         let first = receiver.line()?;
         let ports = first.strip_prefix("ports ").ok_or("the first line names no ports")?;
         receiver.ports = ports.split(' ').map(str::parse).collect::<Result<_, _>>()?;
-        if receiver.ports.len() != 3 {
-            return Err(format!("not three ports: {first}").into());
+        if receiver.ports.len() != 4 {
+            return Err(format!("not four ports: {first}").into());
         }
         Ok(receiver)
     }

@@ -2,12 +2,15 @@
 
 use crate::rules::{Inst, Kinds, Listed, Message};
 
-const ALL: Kinds = Kinds(0b1110);
-const S11_S4: Kinds = Kinds(0b0110);
-const S11_S5: Kinds = Kinds(0b1010);
-const S5: Kinds = Kinds(0b1000);
+const ALL: Kinds = Kinds(0b1_1110);
+/// The kinds with a gateway on one side at least: S11, S4 and S5/S8.
+const GATEWAYS: Kinds = Kinds(0b0_1110);
+const S10: Kinds = Kinds(0b1_0000);
+const S11_S4: Kinds = Kinds(0b0_0110);
+const S11_S5: Kinds = Kinds(0b0_1010);
+const S5: Kinds = Kinds(0b0_1000);
 
-/// An optional pair that stands once, on all kinds.
+/// An optional pair that stands once, on all kinds that its message is on.
 fn pair(typ: u8, inst: u8) -> Listed {
     Listed {
         typ,
@@ -46,27 +49,42 @@ impl Listed {
     }
 }
 
-/// The private extension is last in every message body, and in no group.
-fn message(typ: u8, teid: bool, mut body: Vec<Listed>) -> Message {
+/// The private extension is last in every message body, and in no group. No line
+/// is on a kind that its message is not on.
+fn message(typ: u8, teid: bool, kinds: Kinds, mut body: Vec<Listed>) -> Message {
     let private_extension = Listed {
         inst: Inst::Any,
         ..pair(255, 0).many()
     };
     body.push(private_extension);
-    Message { typ, teid, body }
+    confine(&mut body, kinds);
+    Message {
+        typ,
+        teid,
+        kinds,
+        body,
+    }
+}
+
+fn confine(listing: &mut [Listed], kinds: Kinds) {
+    for listed in listing {
+        listed.kinds.0 &= kinds.0;
+        confine(&mut listed.inside, kinds);
+    }
 }
 
 pub fn messages() -> Vec<Message> {
     vec![
-        message(1, false, echo()),
-        message(2, false, echo()),
-        message(32, true, create_session_request()),
-        message(37, true, delete_session_response()),
-        message(66, true, delete_bearer_command()),
-        message(67, true, delete_bearer_failure_indication()),
-        message(68, true, bearer_resource_command()),
-        message(69, true, bearer_resource_failure_indication()),
-        message(97, true, update_bearer_request()),
+        message(1, false, ALL, echo()),
+        message(2, false, ALL, echo()),
+        message(32, true, GATEWAYS, create_session_request()),
+        message(37, true, GATEWAYS, delete_session_response()),
+        message(66, true, GATEWAYS, delete_bearer_command()),
+        message(67, true, GATEWAYS, delete_bearer_failure_indication()),
+        message(68, true, GATEWAYS, bearer_resource_command()),
+        message(69, true, GATEWAYS, bearer_resource_failure_indication()),
+        message(97, true, GATEWAYS, update_bearer_request()),
+        message(131, true, S10, context_response()),
     ]
 }
 
@@ -224,5 +242,50 @@ fn bearer_updated() -> Vec<Listed> {
         pair(80, 0),
         pair(95, 0),
         pair(94, 0),
+    ]
+}
+
+fn context_response() -> Vec<Listed> {
+    vec![
+        pair(2, 0).mandatory(),
+        pair(1, 0),
+        pair(103, 0),
+        pair(104, 0),
+        pair(105, 0),
+        pair(106, 0),
+        pair(107, 0),
+        pair(108, 0),
+        pair(109, 0).many().inside(pdn_connection()),
+        pair(87, 0),
+        pair(87, 1),
+        pair(136, 0),
+        pair(77, 0),
+    ]
+}
+
+/// 109/0 in message 131.
+fn pdn_connection() -> Vec<Listed> {
+    vec![
+        pair(71, 0).mandatory(),
+        pair(127, 0),
+        pair(128, 0),
+        pair(74, 0),
+        pair(74, 1),
+        pair(73, 0).mandatory(),
+        pair(87, 0).mandatory(),
+        pair(136, 0),
+        pair(93, 0).mandatory().many().inside(bearer_handed_over()),
+        pair(72, 0).mandatory(),
+    ]
+}
+
+/// 93/0 in the 109/0 of message 131.
+fn bearer_handed_over() -> Vec<Listed> {
+    vec![
+        pair(73, 0).mandatory(),
+        pair(84, 0),
+        pair(87, 0),
+        pair(87, 1),
+        pair(80, 0).mandatory(),
     ]
 }

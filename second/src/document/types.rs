@@ -7,7 +7,7 @@ use crate::rules::{ByFirst, Cover, Facts, Least, STANDINGS};
 pub fn types() -> [Facts; 256] {
     array::from_fn(|typ| Facts {
         least: least(typ),
-        group: matches!(typ, 93 | 180),
+        group: matches!(typ, 93 | 109 | 180),
         cover: cover(typ),
     })
 }
@@ -18,10 +18,10 @@ fn least(typ: usize) -> Least {
         86 => by_first(0, &user_location()),
         // 5, and 4 more for the top bit, and 16 more for the next.
         87 => by_first(6, &[5, 5 + 16, 5 + 4, 5 + 4 + 16]),
-        93 | 180 => Least::Fixed(0),
+        93 | 109 | 180 => Least::Fixed(0),
         2 | 95 | 114 | 255 => Least::Fixed(2),
         83 => Least::Fixed(3),
-        94 | 170 | 183 => Least::Fixed(4),
+        74 | 94 | 170 | 183 => Least::Fixed(4),
         72 => Least::Fixed(8),
         81 => Least::Fixed(21),
         80 => Least::Fixed(22),
@@ -54,7 +54,7 @@ fn by_first(shift: u8, least: &[usize]) -> Least {
 /// void group the values inside.
 fn cover(typ: usize) -> [Cover; STANDINGS] {
     let by_type = match typ {
-        1 | 75 | 76 | 78 | 255 => Cover::Whole,
+        1 | 74 | 75 | 76 | 78 | 103..=108 | 255 => Cover::Whole,
         79 | 86 => Cover::Rest,
         _ => Cover::Nothing,
     };

@@ -14,8 +14,8 @@ const LONG_VALUE: usize = 700;
 
 /// Types of which unexpected elements are often made: covered ones, groups,
 /// those whose length goes by the first octet, and others.
-const FAMILIAR: [u8; 16] = [
-    1, 2, 3, 73, 75, 76, 78, 79, 86, 87, 93, 96, 180, 183, 201, 255,
+const FAMILIAR: [u8; 20] = [
+    1, 2, 3, 73, 74, 75, 76, 78, 79, 86, 87, 93, 96, 103, 108, 109, 180, 183, 201, 255,
 ];
 
 pub fn compose(random: &mut Random, kind: u32, message: &'static Message) -> Draft {
@@ -68,7 +68,11 @@ impl Composer<'_> {
     fn run(&mut self, listing: &'static [Listed]) -> Run {
         let mut run = Run::default();
         for listed in listing {
-            for _ in 0..self.count(listed) {
+            for turn in 0..self.count(listed) {
+                // Groups in groups fill a message while they are repeated.
+                if turn > 0 && !self.roomy() {
+                    break;
+                }
                 let element = self.element(listed);
                 run.elements.push(element);
             }
@@ -233,7 +237,7 @@ pub fn nested(random: &mut Random) -> Value {
         remnant: vec![0x49; random.below(8)],
     };
     for _ in 0..random.below(20) {
-        let typ = *random.pick(&[93, 93, 180]);
+        let typ = *random.pick(&[93, 93, 109, 180]);
         let inner = Element {
             value: Value::Group(run),
             ..Element::plain(typ, 0, Vec::new())

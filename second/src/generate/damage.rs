@@ -40,7 +40,7 @@ const INNER: [(usize, Inner); 5] = [
 ];
 
 /// Oversize messages are rare, since one weighs as much as thirty others.
-const OUTER: [(usize, Outer); 13] = [
+const OUTER: [(usize, Outer); 14] = [
     (2, wrong_kind),
     (2, emptied),
     (1, oversize),
@@ -49,6 +49,7 @@ const OUTER: [(usize, Outer); 13] = [
     (2, piggybacked),
     (2, header_length),
     (2, unlisted_message),
+    (2, off_kind),
     (2, wrong_t),
     (2, cut),
     (4, cut_and_mended),
@@ -103,7 +104,7 @@ fn short(random: &mut Random, draft: &mut Draft) {
 
 fn wrong_kind(random: &mut Random, case: &mut Case) {
     let any = random.number() as u32;
-    case.kind = *random.pick(&[0, 4, 255, 257, 0x0001_0002, u32::MAX, any]);
+    case.kind = *random.pick(&[0, 5, 255, 257, 0x0001_0002, u32::MAX, any]);
 }
 
 fn emptied(_: &mut Random, case: &mut Case) {
@@ -163,6 +164,21 @@ fn unlisted_message(random: &mut Random, case: &mut Case) {
         *typ = random.octet();
         while DOCUMENT.message_of(*typ).is_some() {
             *typ = typ.wrapping_add(1);
+        }
+    }
+}
+
+/// A kind that the message is not on; one that is on all of them gets another type.
+fn off_kind(random: &mut Random, case: &mut Case) {
+    let Some(typ) = case.message.get_mut(1) else {
+        return;
+    };
+    let listed = DOCUMENT.message_of(*typ);
+    match listed.and_then(|listed| random.kind_off(listed)) {
+        Some(kind) => case.kind = kind,
+        None => {
+            case.kind = random.kind();
+            *typ = random.type_off(case.kind);
         }
     }
 }

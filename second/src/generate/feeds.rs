@@ -80,7 +80,7 @@ impl Case {
         // What is left of the first must not show in a second message: on
         // another kind, in another table, and begun anew halfway. The table that
         // was in use is no longer than the next, which makes all of it zero.
-        let kind = *random.pick(&[self.kind, self.kind, 1, 2, 3]);
+        let kind = *random.pick(&[self.kind, self.kind, self.kind, 1, 2, 3, 4]);
         let numbers = *random.pick(&[numbers, self.table_need(), self.table_need() + 7]);
         let again = parts(&self.message, Cut::Chance, random);
         let in_use = numbers - random.below(2).min(numbers);

@@ -5,7 +5,7 @@ use super::draft::{mend_length, Draft, Element, Run, Value};
 use super::random::Random;
 use super::Case;
 use crate::framing::ELEMENT_HEADER;
-use crate::rules::Message;
+use crate::rules::{Listed, Message};
 use crate::DOCUMENT;
 
 pub fn at_limit(random: &mut Random) -> Case {
@@ -15,6 +15,7 @@ pub fn at_limit(random: &mut Random) -> Case {
         all_empty,
         most_kept,
         most_groups,
+        most_connections,
         remnant,
     ];
     random.pick(&shapes)(random)
@@ -32,8 +33,8 @@ fn some_message(random: &mut Random) -> &'static Message {
 
 /// A good message filled to `length` octets by one long private extension.
 fn filled_to(random: &mut Random, length: usize) -> Case {
-    let kind = random.kind();
     let message = some_message(random);
+    let kind = random.kind_of(message);
     let mut octets = compose(random, kind, message).octets(random);
     let value = length - octets.len() - ELEMENT_HEADER;
     let inst = random.below(16) as u8;
@@ -76,14 +77,18 @@ fn echo(random: &mut Random, elements: Vec<Element>) -> Case {
         elements,
         remnant: Vec::new(),
     };
+    on_its_kind(random, Draft { message, body })
+}
+
+fn on_its_kind(random: &mut Random, draft: Draft) -> Case {
     Case {
-        kind: random.kind(),
-        message: Draft { message, body }.octets(random),
+        kind: random.kind_of(draft.message),
+        message: draft.octets(random),
     }
 }
 
 fn empty_elements(random: &mut Random, count: usize) -> Vec<Element> {
-    let typ = *random.pick(&[3, 93, 152, 180, 200, 255]);
+    let typ = *random.pick(&[3, 93, 109, 152, 180, 200, 255]);
     (0..count)
         .map(|_| Element::plain(typ, 0, Vec::new()))
         .collect()
@@ -120,8 +125,39 @@ fn most_groups(random: &mut Random) -> Case {
         elements,
         remnant: Vec::new(),
     };
-    Case {
-        kind: random.kind(),
-        message: Draft { message, body }.octets(random),
+    on_its_kind(random, Draft { message, body })
+}
+
+/// As many PDN connections with a bearer each as a message holds, of each no more
+/// than it must have.
+fn most_connections(random: &mut Random) -> Case {
+    let message = DOCUMENT.message_of(131).expect("131 is listed");
+    let mut body = least(random, &message.body);
+    let connection = message.body.iter().find(|listed| listed.typ == 109);
+    let connection = connection.expect("131 lists 109");
+    loop {
+        let one = Element {
+            value: Value::Group(least(random, &connection.inside)),
+            ..Element::plain(109, 0, Vec::new())
+        };
+        body.elements.push(one);
+        if body.octets() + 12 > DOCUMENT.sizes.longest {
+            body.elements.pop();
+            return on_its_kind(random, Draft { message, body });
+        }
     }
+}
+
+/// What a level must have, each at its least length.
+fn least(random: &mut Random, listing: &[Listed]) -> Run {
+    let mut run = Run::default();
+    for listed in listing.iter().filter(|listed| listed.mandatory) {
+        let mut element = Element::plain(listed.typ, listed.inst.number(), Vec::new());
+        element.value = match DOCUMENT.facts(listed.typ).group {
+            true => Value::Group(least(random, &listed.inside)),
+            false => Value::Plain(good_value(random, listed.typ, 0)),
+        };
+        run.elements.push(element);
+    }
+    run
 }

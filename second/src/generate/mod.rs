@@ -113,8 +113,8 @@ impl Generator {
     }
 
     fn draft(&mut self) -> (u32, Draft) {
-        let kind = self.random.kind();
         let message = self.random.pick(&DOCUMENT.messages);
+        let kind = self.random.kind_of(message);
         (kind, compose::compose(&mut self.random, kind, message))
     }
 }

@@ -11,7 +11,7 @@ use crate::DOCUMENT;
 
 /// Types that such a group does not list: covered ones, those whose first octet
 /// is read elsewhere, groups, and some others.
-const STRANGE: [u8; 12] = [1, 75, 76, 78, 79, 79, 86, 86, 87, 200, 255, 2];
+const STRANGE: [u8; 14] = [1, 74, 75, 76, 78, 79, 79, 86, 86, 87, 103, 200, 255, 2];
 
 /// The inside of a group that has a limit. Where it is not too full, all that is
 /// mandatory is there and long enough; where it is, anything may be, well framed.
@@ -97,7 +97,7 @@ fn holding(random: &mut Random, counted: &Listed) -> Element {
         }
         false => nested(random),
     };
-    let typ = *random.pick(&[93, 180]);
+    let typ = *random.pick(&[93, 109, 180]);
     Element {
         value,
         ..Element::plain(typ, 0, Vec::new())
@@ -117,13 +117,13 @@ fn limited() -> (&'static Message, &'static Listed) {
 /// A message with one to three such groups, good or with a fault in them or
 /// beside them.
 pub fn overload(random: &mut Random) -> Case {
-    let kind = random.kind();
     let (message, group) = limited();
     // 66 lists the group without a limit.
     let message = match random.percent(10) {
         true => DOCUMENT.message_of(66).expect("66 is listed"),
         false => message,
     };
+    let kind = random.kind_of(message);
     let mut draft = compose(random, kind, message);
     let is_group = |element: &Element| group.is(element.typ, element.inst);
     draft.body.elements.retain(|element| !is_group(element));

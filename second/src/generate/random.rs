@@ -1,5 +1,6 @@
 //! A small seeded source of numbers (SplitMix64), the same on every platform.
 
+use crate::rules::Message;
 use crate::DOCUMENT;
 
 #[derive(Debug, Clone)]
@@ -39,6 +40,26 @@ impl Random {
     pub fn kind(&mut self) -> u32 {
         let (first, last) = (*DOCUMENT.kinds.start(), *DOCUMENT.kinds.end());
         self.between(first as usize, last as usize) as u32
+    }
+
+    /// One of the kinds that the message is on.
+    pub fn kind_of(&mut self, message: &Message) -> u32 {
+        let kinds = message.kinds.each().collect::<Vec<_>>();
+        *self.pick(&kinds)
+    }
+
+    /// A kind that the message is not on, if there is one.
+    pub fn kind_off(&mut self, message: &Message) -> Option<u32> {
+        let mut kinds = DOCUMENT.kinds.clone().collect::<Vec<_>>();
+        kinds.retain(|&kind| !message.kinds.has(kind));
+        (!kinds.is_empty()).then(|| *self.pick(&kinds))
+    }
+
+    /// A message type that is listed and not on that kind.
+    pub fn type_off(&mut self, kind: u32) -> u8 {
+        let messages = DOCUMENT.messages.iter();
+        let off = messages.filter(|message| !message.kinds.has(kind));
+        self.pick(&off.collect::<Vec<_>>()).typ
     }
 
     pub fn octet(&mut self) -> u8 {

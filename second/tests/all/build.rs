@@ -124,7 +124,7 @@ fn kind_and_type_are_those_of_the_header() {
 fn a_short_header_comes_before_kind_before_type() {
     let g = octets(G);
     let unlisted = [0, 3, 65, 70, 98, 255, 256, 256 + 66, 0x8000 | 66, u16::MAX];
-    for kind in [0, 4, 257, 0x8001, u16::MAX] {
+    for kind in [0, 5, 257, 0x8001, u16::MAX] {
         let mut table = g_with(5, kind);
         assert_eq!(code(OF_G, &table, &g), 1);
         // 1 before 7, and before the other reasons of 14.
@@ -401,7 +401,7 @@ fn reasons(what: &Build) -> BTreeSet<&'static str> {
     if kept != rows.iter().filter(|row| row[5] == 0).count() as u64 {
         reasons.insert("kept rows");
     }
-    let is_group = |row: &[u16]| row[1] == 93 || row[1] == 180;
+    let is_group = |row: &[u16]| matches!(row[1], 93 | 109 | 180);
     for (at, row) in rows.iter().enumerate() {
         let mut allowed = vec![0];
         // The row just before, and its ancestors.
@@ -436,7 +436,7 @@ fn elements(rows: &[[u16; 6]], parent: u16, values: &[u8], wrong: Wrong) -> Vec<
     let mut octets = Vec::new();
     for (at, row) in rows.iter().enumerate().filter(|(_, row)| row[0] == parent) {
         let [_, typ, inst, place, length, _] = *row;
-        let group = typ == 93 || typ == 180;
+        let group = matches!(typ, 93 | 109 | 180);
         let value = match group {
             true => elements(rows, at as u16 + 1, values, wrong),
             false => values[usize::from(place)..][..usize::from(length)].to_vec(),
@@ -478,6 +478,10 @@ enum Wrong {
     TableFirst,
     /// The kind that is asked for is another than the one in the header.
     KindTurned,
+    /// A type that is not on the kind is left to the judge.
+    OffKindNotTested,
+    /// It is told after 14.
+    OffKindLast,
 }
 
 /// The message by the words of the rule.
@@ -526,18 +530,25 @@ fn expected_of(what: &Build, room: usize, wrong: Wrong) -> Result<Vec<u8>, u16> 
     let number = |at: usize| what.table.get(at).copied().unwrap_or(0);
     let kind = match wrong {
         Wrong::KindCut => number(5) & 0xFF,
-        Wrong::KindTurned if (1..=3).contains(&number(5)) => number(5) % 3 + 1,
+        Wrong::KindTurned if (1..=4).contains(&number(5)) => number(5) % 4 + 1,
         _ => number(5),
     };
     let typ = match wrong {
         Wrong::TypeCut => number(4) & 0xFF,
         _ => number(4),
     };
-    if !(1..=3).contains(&kind) {
+    if !(1..=4).contains(&kind) {
         return Err(1);
     }
     if !LISTED.contains(&typ) {
         return Err(7);
+    }
+    let is_off_kind = is_off_kind(typ, kind);
+    match wrong {
+        Wrong::OffKindNotTested => {}
+        Wrong::OffKindLast if !reasons(what).is_empty() => {}
+        _ if is_off_kind => return Err(21),
+        _ => {}
     }
     if !reasons(what).is_empty() {
         return Err(14);
@@ -545,7 +556,7 @@ fn expected_of(what: &Build, room: usize, wrong: Wrong) -> Result<Vec<u8>, u16> 
     let rows = what.table[6..].chunks_exact(6);
     let rows = rows.take(usize::from(what.table[0]));
     let octets = rows.map(|row| match row[1] {
-        93 | 180 => 4,
+        93 | 109 | 180 => 4,
         _ => 4 + u64::from(row[4]),
     });
     let header = if typ > 2 { 12 } else { 8 };
@@ -569,7 +580,7 @@ fn assert_rows_are_the_same(what: &Build, message: &[u8]) {
     for (row, wanted) in rows(&table).iter().zip(wanted) {
         assert_eq!(row[..3], wanted[..3]);
         assert_eq!(row[5], 0);
-        if !matches!(row[1], 93 | 180) {
+        if !matches!(row[1], 93 | 109 | 180) {
             let [found, wanted] = [(row, message), (wanted, &what.values[..])].map(|(row, of)| {
                 let place = usize::from(row[3]);
                 &of[place..place + usize::from(row[4])]
@@ -653,7 +664,12 @@ fn not_whole(what: &Build) -> String {
     }
 }
 
-const LISTED: [u16; 9] = [1, 2, 32, 37, 66, 67, 68, 69, 97];
+const LISTED: [u16; 10] = [1, 2, 32, 37, 66, 67, 68, 69, 97, 131];
+
+/// Echoes are on every kind, 131 on kind 4 alone, and the others on the others.
+fn is_off_kind(typ: u16, kind: u16) -> bool {
+    typ > 2 && (typ == 131) != (kind == 4)
+}
 
 /// What is met in the header of a build, with the code that it gives.
 fn of_the_header(what: &Build) -> Vec<String> {
@@ -675,7 +691,7 @@ fn of_the_header(what: &Build) -> Vec<String> {
     if table[2] == 4 && u64::from(table[3]) == 4 + 6 * u64::from(table[0]) {
         names.push(format!("header of four: {code}"));
     }
-    let (kind, bad_kind) = (table[5], !(1..=3).contains(&table[5]));
+    let (kind, bad_kind) = (table[5], !(1..=4).contains(&table[5]));
     let wide = if table[4] > 255 {
         "past an octet"
     } else {
@@ -683,7 +699,7 @@ fn of_the_header(what: &Build) -> Vec<String> {
     };
     let faults = (bad_kind, unlisted(4), !reasons(what).is_empty());
     names.push(match faults {
-        (true, false, false) if (257..=259).contains(&kind) => {
+        (true, false, false) if (257..=260).contains(&kind) => {
             format!("kind its own and 256: {code}")
         }
         (true, false, false) => format!("kind {kind}: {code}"),
@@ -691,6 +707,10 @@ fn of_the_header(what: &Build) -> Vec<String> {
         (true, true, _) => format!("kind and type {wide}: {code}"),
         (true, false, true) => format!("kind and table: {code}"),
         (false, true, true) => format!("type and table: {code}"),
+        (false, false, table_too) if is_off_kind(table[4], kind) => match table_too {
+            true => format!("off its kind and table: {code}"),
+            false => format!("{} on kind {kind}: {code}", table[4]),
+        },
         (false, false, _) => return names,
     });
     names
@@ -702,7 +722,7 @@ fn of_the_header(what: &Build) -> Vec<String> {
 fn every_reason_is_met() {
     let mut met = BTreeMap::new();
     for (seed, what) in builds().iter().enumerate() {
-        let good_head = expected(what, 0) != Err(1) && expected(what, 0) != Err(7);
+        let good_head = !matches!(expected(what, 0), Err(1 | 7 | 21));
         for name in of_the_header(what) {
             *met.entry(name).or_insert(0) += 1;
         }
@@ -754,10 +774,10 @@ fn every_reason_is_met() {
         "5 numbers of a listed type: 14".into(),
         "5 numbers of an unlisted type: 14".into(),
     ]);
-    for code in [1, 7, 14, 16] {
+    for code in [1, 7, 14, 16, 21] {
         wanted.push(format!("6 numbers: {code}"));
     }
-    for kind in ["0", "4", "its own and 256", "65535"] {
+    for kind in ["0", "5", "its own and 256", "65535"] {
         wanted.push(format!("kind {kind}: 1"));
     }
     for typ in ["an octet", "past an octet"] {
@@ -766,13 +786,20 @@ fn every_reason_is_met() {
     }
     wanted.extend(["kind and table: 1".into(), "type and table: 7".into()]);
     wanted.extend(["header of four: 1".into(), "header of four: 7".into()]);
-    for code in [0, 1, 7, 14, 15, 16] {
+    wanted.push("off its kind and table: 21".into());
+    for typ in [32, 37, 66, 67, 68, 69, 97] {
+        wanted.push(format!("{typ} on kind 4: 21"));
+    }
+    for kind in 1..=3 {
+        wanted.push(format!("131 on kind {kind}: 21"));
+    }
+    for code in [0, 1, 7, 14, 15, 16, 21] {
         wanted.push(format!("code {code}"));
         for answer in ANSWERS {
             wanted.push(format!("answer of {answer}: code {code}"));
         }
     }
-    for code in [1, 7, 14, 15] {
+    for code in [1, 7, 14, 15, 21] {
         wanted.push(format!("one short: code {code}"));
     }
     for why in ["4,096 octets alone", "the room alone"] {
@@ -808,8 +835,10 @@ fn wrong_builders_are_seen() {
         Wrong::HeaderNotFirst,
         Wrong::TableFirst,
         Wrong::KindTurned,
+        Wrong::OffKindNotTested,
+        Wrong::OffKindLast,
     ];
-    let mut seen = [0; 12];
+    let mut seen = [0; 14];
     for (seed, what) in builds().iter().enumerate() {
         let [enough, _] = what.lent(seed as u64);
         let right = expected(what, enough.room);

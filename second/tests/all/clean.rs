@@ -274,7 +274,7 @@ fn length_of(length: usize, wrong: Wrong) -> [u8; 2] {
 }
 
 fn is_group(row: &Row) -> bool {
-    matches!(row.typ, 93 | 180)
+    matches!(row.typ, 93 | 109 | 180)
 }
 
 /// The kept rows with that parent, as octets.

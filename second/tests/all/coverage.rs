@@ -35,17 +35,29 @@ impl Counts {
     }
 }
 
-/// The level where an element at `place` stands, and its end, read off the body.
-fn level_of(message: &[u8], place: usize) -> (&'static str, usize) {
+/// The groups around an element at `place`, by their first octets from the outermost
+/// on, and the end of its level, read off the body.
+fn around(message: &[u8], place: usize) -> (Vec<usize>, usize) {
     let mut at = if message[0] & 8 == 0 { 8 } else { 12 };
+    let (mut groups, mut level_end) = (Vec::new(), message.len());
     while at < place {
         let end = at + 4 + claim(message, at);
         if place < end {
-            return (group_name(message[at]), end);
+            groups.push(at);
+            level_end = end;
+            at += 4;
+        } else {
+            at = end;
         }
-        at = end;
     }
-    ("the message", message.len())
+    (groups, level_end)
+}
+
+/// The level of an element at `place`, and its end.
+fn level_of(message: &[u8], place: usize) -> (&'static str, usize) {
+    let (groups, end) = around(message, place);
+    let types = groups.iter().map(|&group| message[group]);
+    (level_name(&types.collect::<Vec<_>>()), end)
 }
 
 /// The length that the element there has by its own word.
@@ -53,15 +65,19 @@ fn claim(message: &[u8], at: usize) -> usize {
     usize::from(u16::from_be_bytes([message[at + 1], message[at + 2]]))
 }
 
-fn group_name(typ: u8) -> &'static str {
-    match typ {
-        93 => "a 93",
-        180 => "a 180",
-        _ => panic!("no group: {typ}"),
+/// The name of a level by the types of the groups around it.
+fn level_name(groups: &[u8]) -> &'static str {
+    match groups {
+        [] => "the message",
+        [93] => "a 93",
+        [109] => "a 109",
+        [180] => "a 180",
+        [109, 93] => "a 93 in a 109",
+        _ => panic!("no such level: {groups:?}"),
     }
 }
 
-const LEVELS: [&str; 3] = ["the message", "a 93", "a 180"];
+const LEVELS: [&str; 5] = ["the message", "a 93", "a 180", "a 109", "a 93 in a 109"];
 
 fn count_verdict(counts: &mut Counts, case: &Case) {
     let (verdict, _) = judged(case.kind, &case.message);
@@ -83,7 +99,10 @@ fn count_verdict(counts: &mut Counts, case: &Case) {
         }
         12 if place == 0 => counts.count("code 12 in the message"),
         12 => {
-            let level = group_name(case.message[place]);
+            let (mut groups, _) = around(&case.message, place);
+            groups.push(place);
+            let types = groups.iter().map(|&group| case.message[group]);
+            let level = level_name(&types.collect::<Vec<_>>());
             counts.count(&format!("code 12 in {level}"));
         }
         _ => {}
@@ -93,7 +112,7 @@ fn count_verdict(counts: &mut Counts, case: &Case) {
 #[test]
 fn every_code_at_every_level() {
     let mut counts = Counts::default();
-    for code in (0..=13).filter(|&code| code != 10 && code != 13) {
+    for code in (0..=12).chain([21]).filter(|&code| code != 10) {
         counts.expect(format!("code {code}"));
     }
     for level in LEVELS {
@@ -113,7 +132,7 @@ fn every_code_at_every_level() {
 #[test]
 fn every_code_in_the_mix() {
     let mut counts = Counts::default();
-    for code in (0..=12).filter(|&code| code != 10) {
+    for code in (0..=12).chain([21]).filter(|&code| code != 10) {
         counts.expect(format!("code {code}"));
     }
     for case in Generator::new(61).take(10_000) {
@@ -197,12 +216,13 @@ fn assert_set_aside(cases: impl Iterator<Item = Case>, least: usize) {
             met.insert(format!("{standing:?} in {level}"), 0);
         }
     }
-    for group in ["a 93", "a 180"] {
-        met.insert(format!("Unexpected: {group} itself"), 0);
+    for group in [93, 109, 180] {
+        met.insert(format!("Unexpected: a {group} itself"), 0);
     }
     met.insert("Void in the message".into(), 0);
     met.insert("Void: a 180 itself".into(), 0);
     met.insert("at both levels".into(), 0);
+    met.insert("at three levels".into(), 0);
     for case in cases {
         if !judged(case.kind, &case.message).0.accepted() {
             continue;
@@ -221,25 +241,24 @@ fn set_aside(case: &Case) -> BTreeSet<String> {
     let rows = DOCUMENT.rows(case.kind, &case.message);
     let rows = rows.expect("an accepted message");
     let mut ways = BTreeSet::new();
-    let (mut outside, mut inside) = (false, false);
+    let mut depths = [false; 3];
     for row in rows.iter().filter(|row| row.standing != Standing::Kept) {
-        let level = match row.parent {
-            0 => "the message",
-            parent => group_name(rows[usize::from(parent) - 1].typ),
-        };
-        outside |= row.parent == 0;
-        inside |= row.parent != 0;
-        ways.insert(format!("{:?} in {level}", row.standing));
+        let (mut groups, mut parent) = (Vec::new(), row.parent);
+        while let Some(at) = usize::from(parent).checked_sub(1) {
+            groups.insert(0, rows[at].typ);
+            parent = rows[at].parent;
+        }
+        depths[groups.len()] = true;
+        ways.insert(format!("{:?} in {}", row.standing, level_name(&groups)));
         if DOCUMENT.facts(row.typ).group {
-            ways.insert(format!(
-                "{:?}: {} itself",
-                row.standing,
-                group_name(row.typ)
-            ));
+            ways.insert(format!("{:?}: a {} itself", row.standing, row.typ));
         }
     }
-    if outside && inside {
+    if depths[0] && depths[1] {
         ways.insert("at both levels".into());
+    }
+    if depths == [true; 3] {
+        ways.insert("at three levels".into());
     }
     ways
 }
@@ -257,7 +276,7 @@ fn rows_set_aside_in_the_mix() {
 /// What is expected of one line of a listing.
 fn expect_line(counts: &mut Counts, lines: &[Line], line: &Line) {
     let can_be_short = DOCUMENT.facts(line.listed.typ).least(&[]) > 0;
-    for kind in (1..=3).filter(|&kind| level_is_entered(lines, line, kind)) {
+    for kind in (1..=4).filter(|&kind| level_is_entered(lines, line, kind)) {
         if !line.listed.kinds.has(kind) {
             counts.expect(format!("{line}: not listed on {kind}"));
             continue;
@@ -278,17 +297,19 @@ fn expect_line(counts: &mut Counts, lines: &[Line], line: &Line) {
     }
 }
 
-/// Is the line's level the body, or a group that the body lists for the kind?
+/// Is the line's level the body of a message that is on the kind, or a group that
+/// a level lists for the kind that is entered itself?
 fn level_is_entered(lines: &[Line], line: &Line, kind: u32) -> bool {
     let Some((typ, inst)) = line.level else {
-        return true;
+        let message = DOCUMENT.message_of(line.message);
+        return message.is_some_and(|message| message.kinds.has(kind));
     };
-    let mut body = lines.iter().filter(|other| other.level.is_none());
-    body.any(|other| {
+    lines.iter().any(|other| {
         let listed = other.listed;
         other.message == line.message
             && (listed.typ, listed.inst) == (typ, inst)
             && listed.kinds.has(kind)
+            && level_is_entered(lines, other, kind)
     })
 }
 
@@ -363,7 +384,7 @@ fn every_mandatory_line_is_told() {
         let place = usize::from(verdict.place);
         let group = match verdict.code {
             12 => place,
-            11 => group_around(&case.message, place),
+            11 => around(&case.message, place).0.pop().unwrap_or(0),
             _ => continue,
         };
         let level = match group {
@@ -375,21 +396,6 @@ fn every_mandatory_line_is_told() {
         counts.count(&name);
     }
     counts.assert_enough();
-}
-
-/// The first octet of the group that has the element at `place`, or 0.
-fn group_around(message: &[u8], place: usize) -> usize {
-    let mut at = if message[0] & 8 == 0 { 8 } else { 12 };
-    loop {
-        let end = at + 4 + claim(message, at);
-        if at == place {
-            return 0;
-        }
-        if place < end {
-            return at;
-        }
-        at = end;
-    }
 }
 
 /// Each first octet of a user location with one octet less than it announces,

@@ -24,7 +24,7 @@ fn assert_rows_tile_their_levels(message: &[u8], rows: &[[u16; 6]]) {
         assert!(next[parent] <= ends[parent]);
         next.push(place);
         ends.push(place + usize::from(length));
-        entered.push(standing == 0 && matches!(typ, 93 | 180));
+        entered.push(standing == 0 && matches!(typ, 93 | 109 | 180));
     }
     for row in 0..next.len() {
         assert!(!entered[row] || next[row] == ends[row]);
@@ -58,7 +58,7 @@ pub fn missing_by_hand(lines: &[Line], case: &Case) -> Option<Verdict> {
         .expect("a whole message");
     let mut levels = vec![(0, 0, None)];
     for (number, row) in rows.iter().enumerate() {
-        if row.standing == Standing::Kept && matches!(row.typ, 93 | 180) {
+        if row.standing == Standing::Kept && matches!(row.typ, 93 | 109 | 180) {
             levels.push((number + 1, row.place - 4, Some((row.typ, row.inst))));
         }
     }

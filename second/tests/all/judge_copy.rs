@@ -59,6 +59,9 @@ fn one_to_nine_come_before_what_is_lent() {
     piggybacked[0] = 0x50;
     let mut unlisted = d.clone();
     unlisted[1] = 3;
+    // 131 with T = 0: it is not on kind 1, which comes before its T.
+    let mut off_kind = d.clone();
+    off_kind[1] = 131;
     let mut teid = d.clone();
     teid[1] = 66;
     let mut broken = d.clone();
@@ -66,7 +69,7 @@ fn one_to_nine_come_before_what_is_lent() {
     let mut long = d.clone();
     long.resize(4097, 0);
     let cases = [
-        (4, d.clone(), [1, 0, 0, 0, 0]),
+        (5, d.clone(), [1, 0, 0, 0, 0]),
         (257, d.clone(), [1, 0, 0, 0, 0]),
         (0, Vec::new(), [1, 0, 0, 0, 0]),
         (1, Vec::new(), [2, 0, 0, 0, 0]),
@@ -76,6 +79,7 @@ fn one_to_nine_come_before_what_is_lent() {
         (1, piggybacked, [5, 0, 0, 0, 0]),
         (1, d[..12].to_vec(), [6, 67, 0, 0, 0]),
         (1, unlisted, [7, 0, 0, 0, 0]),
+        (1, off_kind, [21, 0, 0, 0, 0]),
         (1, teid, [8, 0, 0, 0, 0]),
         (1, broken, [9, 67, 8, 0, 0]),
     ];
@@ -656,7 +660,7 @@ fn assert_all_fits(met: &BTreeMap<String, usize>, codes: &[u16]) {
         for table in FITS {
             for copy in FITS {
                 let code = match (with_room, table, copy) {
-                    (1..=9, ..) => with_room,
+                    (1..=9 | 21, ..) => with_room,
                     (_, _, "one short") => 13,
                     (_, "one short", _) => 10,
                     _ => with_room,
@@ -676,6 +680,7 @@ fn every_fit_of_table_and_copy() {
         (case, lent)
     });
     assert_all_fits(&fits(figures), &[0, 9, 11, 12]);
-    let codes = (0..=12).filter(|&code| code != 10).collect::<Vec<_>>();
+    let codes = (0..=12).chain([21]).filter(|&code| code != 10);
+    let codes = codes.collect::<Vec<_>>();
     assert_all_fits(&fits(lends().into_iter()), &codes);
 }

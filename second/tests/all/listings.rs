@@ -44,12 +44,33 @@ const SENTENCES: &[(&[u8], &str, &str)] = &[
         "1/0 M, 93/0 M*, 100/0, 78/0, 72/0 M, 96/0, 132/2, 132/1",
     ),
     (&[97], "93/0", "73/0 M, 84/0, 84/1, 80/0, 95/0, 94/0"),
+    (
+        &[131],
+        "body",
+        "2/0 M, 1/0, 103/0, 104/0, 105/0, 106/0, 107/0, 108/0, 109/0*, 87/0, 87/1, 136/0, 77/0",
+    ),
+    (
+        &[131],
+        "109/0",
+        "71/0 M, 127/0, 128/0, 74/0, 74/1, 73/0 M, 87/0 M, 136/0, 93/0 M*, 72/0 M",
+    ),
+    (&[131], "93/0", "73/0 M, 84/0, 87/0, 87/1, 80/0 M"),
 ];
 
+/// The kinds of each message, as the rule book has them: 1 and 2 on all four, 131
+/// on 4 alone, the others on 1 to 3.
+fn kinds_of(message: u8) -> &'static str {
+    match message {
+        1 | 2 => "1234",
+        131 => "4",
+        _ => "123",
+    }
+}
+
 /// One pair of a sentence in canonical form, without message and level.
-fn canonical(pair: &str) -> String {
+fn canonical(message: u8, pair: &str) -> String {
     let (pair, most) = pair.split_at(pair.find(" most ").unwrap_or(pair.len()));
-    let (pair, kinds) = pair.split_once(" (").unwrap_or((pair, "kinds 1, 2 and 3"));
+    let (pair, kinds) = pair.split_once(" (").unwrap_or((pair, kinds_of(message)));
     let kinds = kinds.chars().filter(char::is_ascii_digit);
     let mandatory = if pair.contains('M') { 'M' } else { '-' };
     let many = if pair.contains('*') { '*' } else { '-' };
@@ -65,10 +86,10 @@ fn sentences_of(message: u8) -> Vec<String> {
             continue;
         }
         for pair in pairs.split(", ") {
-            lines.push(format!("{message} {level} {}", canonical(pair)));
+            lines.push(format!("{message} {level} {}", canonical(message, pair)));
         }
         if *level == "body" {
-            lines.push(format!("{message} body 255/any - * 123"));
+            lines.push(format!("{message} body 255/any - * {}", kinds_of(message)));
         }
     }
     lines
@@ -76,10 +97,36 @@ fn sentences_of(message: u8) -> Vec<String> {
 
 #[test]
 fn listings_are_those_of_the_document() {
-    let messages = [1, 2, 32, 37, 66, 67, 68, 69, 97];
+    let messages = [1, 2, 32, 37, 66, 67, 68, 69, 97, 131];
     let expected = messages.map(sentences_of).concat();
     let lines = DOCUMENT.lines().into_iter().map(|line| line.to_string());
     assert_eq!(lines.collect::<Vec<_>>(), expected);
+}
+
+#[test]
+fn messages_are_on_their_kinds() {
+    for message in &DOCUMENT.messages {
+        let (typ, kinds) = (message.typ, kinds_of(message.typ));
+        assert_eq!(message.kinds.to_string(), kinds, "{typ}");
+        let teid = u8::from(typ > 2);
+        assert_eq!(message.to_string(), format!("{typ} T {teid} {kinds}"));
+    }
+    assert_eq!(DOCUMENT.kinds, 1..=4);
+}
+
+/// A message, a PDN connection and a bearer; no other message goes so deep.
+#[test]
+fn message_131_alone_is_three_deep() {
+    fn depth(listing: &[Listed]) -> usize {
+        let inside = listing.iter().map(|listed| depth(&listed.inside));
+        match listing.is_empty() {
+            true => 0,
+            false => 1 + inside.max().unwrap_or(0),
+        }
+    }
+    for message in &DOCUMENT.messages {
+        assert_eq!(depth(&message.body) == 3, message.typ == 131);
+    }
 }
 
 #[test]
@@ -139,10 +186,10 @@ fn no_level_lists_a_pair_twice() {
 #[test]
 fn types_are_those_of_the_document() {
     let least_lengths: [(usize, &[usize]); 7] = [
-        (0, &[93, 180]),
+        (0, &[93, 109, 180]),
         (2, &[2, 95, 114, 255]),
         (3, &[83]),
-        (4, &[94, 170, 183]),
+        (4, &[74, 94, 170, 183]),
         (8, &[72]),
         (21, &[81]),
         (22, &[80]),
@@ -155,10 +202,11 @@ fn types_are_those_of_the_document() {
         }
         let cover = match typ {
             1 | 75 | 76 | 78 | 255 => Cover::Whole,
+            74 | 103 | 104 | 105 | 106 | 107 | 108 => Cover::Whole,
             79 | 86 => Cover::Rest,
             _ => Cover::Nothing,
         };
-        assert_eq!(facts.group, typ == 93 || typ == 180, "{typ}");
+        assert_eq!(facts.group, [93, 109, 180].contains(&typ), "{typ}");
         let by_standing = [cover, Cover::Whole, Cover::Whole, cover, Cover::Values];
         assert_eq!(facts.cover, by_standing, "{typ}");
     }

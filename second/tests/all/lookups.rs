@@ -154,7 +154,7 @@ fn a_header_must_agree_with_itself() {
 #[test]
 fn the_kind_is_only_compared() {
     let message = octets(G);
-    for kind in [0, 1, 2, 3, 4, 257, u16::MAX] {
+    for kind in [0, 1, 2, 3, 4, 5, 257, u16::MAX] {
         let table = with(one(20, 1), 5, kind);
         assert!(found(kind.into(), &message, &table));
         let own = u32::from(kind);
@@ -345,7 +345,7 @@ fn is_of_kind(lookup: &Lookup, wrong: Wrong) -> bool {
         Wrong::KindNotCompared => true,
         Wrong::ToldKindCut => told & 0xFFFF == own,
         Wrong::KindCut => told == own & 0xFF,
-        Wrong::KindTested => told == own && (1..=3).contains(&told),
+        Wrong::KindTested => told == own && (1..=4).contains(&told),
         _ => told == own,
     }
 }
@@ -533,8 +533,8 @@ fn kinds(lookup: &Lookup) -> &'static str {
     match (told, own) {
         _ if told & 0xFFFF == own => "kind told that is the table's once cut",
         _ if told == own & 0xFF => "kind of the table that is the one told once cut",
-        (1..=3, 1..=3) => "table of another kind",
-        (1..=3, _) => "table of no kind",
+        (1..=4, 1..=4) => "table of another kind",
+        (1..=4, _) => "table of no kind",
         _ => "no kind told",
     }
 }
@@ -564,7 +564,7 @@ fn types(lookup: &Lookup) -> &'static str {
 /// What is unusual in a lookup that is answered with a part.
 fn answered(lookup: &Lookup) -> Vec<&'static str> {
     let mut ways = vec!["part"];
-    if !(1..=3).contains(&lookup.kind) {
+    if !(1..=4).contains(&lookup.kind) {
         ways.push("part on no kind");
     }
     let typ = lookup.message[1];

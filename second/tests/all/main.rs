@@ -3,6 +3,7 @@
 mod build;
 mod changes;
 mod clean;
+mod context;
 mod coverage;
 mod demands;
 mod examples;

@@ -212,7 +212,7 @@ fn octets_past_the_longest_are_counted() {
         verdict_of(2, 0)
     );
     assert_eq!(fed(1, &[&largest, &largest], 12).0, verdict_of(2, 0));
-    assert_eq!(fed(4, &[&largest, &largest], 12).0, verdict_of(1, 0));
+    assert_eq!(fed(5, &[&largest, &largest], 12).0, verdict_of(1, 0));
 }
 
 /// What a pieces form may get wrong that is no figure of the rules.
@@ -693,7 +693,7 @@ fn overloads_in_every_cut() {
 
 #[test]
 fn feeds_meet_every_code() {
-    let mut met = [0; 18];
+    let mut met = [0; 22];
     for (seed, case) in figures().iter().enumerate() {
         let feed = case.feed(seed as u64);
         assert!(feed
@@ -704,8 +704,9 @@ fn feeds_meet_every_code() {
             met[usize::from(left.code)] += 1;
         }
     }
-    for code in (0..=12).chain([17]) {
+    for code in (0..=12).chain([17, 21]) {
         assert!(met[code] >= 50, "{met:?}");
     }
     assert_eq!(met[13..17], [0; 4]);
+    assert_eq!(met[18..21], [0; 3]);
 }

@@ -112,10 +112,21 @@ fn mask_command() {
     assert_eq!(output.stdout[..12], missing[..12]);
     assert_eq!(output.stdout[12..], [0, 0]);
 
-    let output = second(&["mask"], &input(4, &message));
+    let output = second(&["mask"], &input(5, &message));
     assert_eq!(output.status.code(), Some(1));
     assert!(output.stdout.is_empty());
     assert_eq!(output.stderr, b"refuse 1 0 0 0 0\n");
+
+    // 131 is not on kind 3, and there is no copy.
+    let context = crate::support::message(131, "02 00 02 00 10 00");
+    for command in ["mask", "clean"] {
+        let output = second(&[command], &input(3, &context));
+        assert_eq!(output.status.code(), Some(1));
+        assert!(output.stdout.is_empty());
+        assert_eq!(output.stderr, b"refuse 21 0 0 0 0\n");
+        let output = second(&[command], &input(4, &context));
+        assert_eq!(output.stdout, context);
+    }
 }
 
 #[test]
@@ -196,9 +207,14 @@ fn generate_command_with_a_folder() {
 #[test]
 fn listings_and_types_commands() {
     let listings = printed(second(&["listings"], &[]));
-    let echo = "1 T 0\n1 body 3/0 M - 123\n1 body 152/0 - - 123\n1 body 255/any - * 123\n2 T 0\n";
+    let echo = "1 T 0 1234\n1 body 3/0 M - 1234\n1 body 152/0 - - 1234\n\
+                1 body 255/any - * 1234\n2 T 0 1234\n";
     assert!(listings.starts_with(echo));
-    assert!(listings.contains("\n97 T 1\n"));
+    assert!(listings.contains("\n97 T 1 123\n"));
+    assert!(listings.contains("\n131 T 1 4\n131 body 2/0 M - 4\n131 body 1/0 - - 4\n"));
+    assert!(
+        listings.contains("\n131 109/0 93/0 M * 4\n131 109/0 72/0 M - 4\n131 93/0 73/0 M - 4\n")
+    );
     assert!(listings.contains("\n66 body 180/1 - - 3\n"));
     assert!(listings.contains("\n67 180/0 71/0 - * 123 most 10\n"));
     let types = printed(second(&["types"], &[]));
@@ -211,7 +227,12 @@ fn listings_and_types_commands() {
          6,13,13,20,13,20,20,27,11,18,18,25,18,25,25,32,13,20,20,27,20,27,27,34,18,25,25,32,25,32,32,39] \
          - rest whole whole rest values",
         "87 [5,21,9,25] - - whole whole - values",
+        "74 4 - whole whole whole whole values",
         "93 0 group - whole whole - values",
+        "102 1 - - whole whole - values",
+        "103 1 - whole whole whole whole values",
+        "108 1 - whole whole whole whole values",
+        "109 0 group - whole whole - values",
         "180 0 group - whole whole - values",
         "255 2 - whole whole whole whole values",
     ] {

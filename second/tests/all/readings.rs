@@ -23,7 +23,7 @@ fn standings(kind: u32, message: &[u8]) -> Vec<u16> {
 #[test]
 fn a_kind_is_never_cut_and_comes_first() {
     let good = message(66, CONTEXT);
-    for kind in [0, 4, 255, 256, 257, 258, 0x0001_0001, u32::MAX] {
+    for kind in [0, 5, 255, 256, 257, 258, 0x0001_0001, u32::MAX] {
         assert_eq!(five(kind, &good), [1, 0, 0, 0, 0]);
         assert_eq!(five(kind, &[]), [1, 0, 0, 0, 0]);
     }
@@ -72,7 +72,7 @@ fn header_length_goes_by_the_t_found() {
 
 #[test]
 fn only_the_listed_types_are_messages() {
-    let listed = [1, 2, 32, 37, 66, 67, 68, 69, 97];
+    let listed = [1, 2, 32, 37, 66, 67, 68, 69, 97, 131];
     for typ in 0..=255 {
         let code = five(2, &message(typ, ""))[0];
         assert_eq!(code == 7, !listed.contains(&typ), "{typ}");
@@ -461,7 +461,7 @@ fn a_small_copy_comes_after_9() {
     let mut copy = [0xEE; 12];
     assert_eq!(mask(1, &good, &mut copy), verdict([13, 0, 0, 0, 0]));
     assert_eq!(mask(1, &broken, &mut copy), verdict([9, 67, 8, 0, 0]));
-    assert_eq!(mask(4, &good, &mut copy), verdict([1, 0, 0, 0, 0]));
+    assert_eq!(mask(5, &good, &mut copy), verdict([1, 0, 0, 0, 0]));
     assert_eq!(mask(1, &good, &mut []), verdict([13, 0, 0, 0, 0]));
     assert_eq!(copy, [0xEE; 12]);
 }

@@ -145,7 +145,7 @@ fn tables_are_as_expected() {
         assert_eq!(DOCUMENT.program(&input), expected, "{name}");
         count += 1;
     }
-    assert_eq!(count, 4);
+    assert_eq!(count, 7);
 }
 
 #[test]
@@ -241,6 +241,8 @@ fn counts_of_the_realistic_samples() {
         ("create-session-request-emergency", 7, 7),
         ("fteid-one-octet-in-context", 11, 10),
         ("set-aside-at-both-levels", 12, 6),
+        ("context-response", 17, 17),
+        ("context-response-set-aside", 18, 10),
     ];
     for (name, rows, kept) in cases {
         let table = table(kind_of(name), &sample(name));

@@ -619,7 +619,9 @@ impl Reader<'_> {
 
     fn cover(&mut self, typ: u8, standing: u16, value: usize, after: usize) {
         match (standing, typ) {
-            (1 | 2, _) | (_, 1 | 75 | 76 | 78 | 255) => self.covered[value..after].fill(true),
+            (1 | 2, _) | (_, 1 | 74 | 75 | 76 | 78 | 103..=108 | 255) => {
+                self.covered[value..after].fill(true)
+            }
             (_, 79 | 86) if after > value => self.covered[value + 1..after].fill(true),
             _ => {}
         }
@@ -635,7 +637,7 @@ impl Reader<'_> {
                 _ => (typ, inst) == (71, 0),
             };
             count += usize::from(counts);
-            if self.is(DeeperCounted) && matches!(typ, 93 | 180) {
+            if self.is(DeeperCounted) && matches!(typ, 93 | 109 | 180) {
                 let (deeper, _) = elements(self.message, from, to);
                 count += deeper
                     .iter()
@@ -694,7 +696,7 @@ impl Reader<'_> {
     fn cover_inside(&mut self, typ: u8, from: usize, to: usize) {
         match typ {
             79 | 86 if self.is(FirstOctetOpen) => self.covered[to.min(from + 1)..to].fill(true),
-            93 | 180 if self.is(InnerHeadersOpen) => {
+            93 | 109 | 180 if self.is(InnerHeadersOpen) => {
                 for (_, _, from, to) in elements(self.message, from, to).0 {
                     self.covered[from..to].fill(true);
                 }
@@ -706,7 +708,7 @@ impl Reader<'_> {
 
 fn least(typ: u8) -> usize {
     match typ {
-        93 | 180 => 0,
+        93 | 109 | 180 => 0,
         2 | 255 => 2,
         183 => 4,
         _ => 1,
@@ -762,7 +764,7 @@ fn by_the_program(case: &Case) -> Seen {
 
 /// Is it a Delete Bearer Failure Indication that 1 to 8 let pass?
 fn is_failure(case: &Case) -> bool {
-    let passes = !matches!(judged(case.kind, &case.message).0.code, 1..=8);
+    let passes = !matches!(judged(case.kind, &case.message).0.code, 1..=8 | 21);
     passes && case.message[1] == 67
 }
 

@@ -1,7 +1,7 @@
 //! Judge and copy in one call, clean alone, and build, through the C interface against the second program: the ratio is the second program's time
 //! divided by ours, so that higher is better. Turns are interleaved, and the best of each side counts. Buffers are made once and not cleared between
 //! messages. The pieces form is measured against the library's own call on the whole message, with the same table, which its start makes zero: that
-//! call's time, which has the copy in it, divided by its own. `bench LINE SIDE TURNS` does one line (0 to 8) of one side (ours, or the other) so many
+//! call's time, which has the copy in it, divided by its own. `bench LINE SIDE TURNS` does one line (0 to 9) of one side (ours, or the other) so many
 //! times and measures nothing: trials/instructions counts.
 use second::generate::{Build, Generator};
 use std::hint::black_box;
@@ -110,11 +110,22 @@ fn bearers(count: usize) -> Vec<u8> {
     with_length(message)
 }
 
+/// A Context Response with so many PDN connections, each with what it must have and a bearer, which is its third level.
+fn connections(count: usize) -> Vec<u8> {
+    let inside = [&[73, 0, 1, 0, 5, 80, 0, 22, 0][..], &[0; 22]].concat();
+    let bearer = [&[93, 0, 31, 0][..], &inside].concat();
+    let beside = [71, 0, 1, 0, 0, 73, 0, 1, 0, 5, 87, 0, 5, 0, 7, 0, 0, 0, 1, 72, 0, 8, 0, 0, 0, 0, 1, 0, 0, 0, 2];
+    let mut message = vec![0x48, 131, 0, 0, 0, 0, 0, 1, 0, 0, 1, 0, 2, 0, 2, 0, 16, 0];
+    message.extend([&[109, 0, 66, 0], &beside[..], &bearer].concat().repeat(count));
+    with_length(message)
+}
+
 /// The lines, of so many generated messages and builds; the large messages a fiftieth as often.
-fn lines(count: usize) -> [Line; 9] {
+fn lines(count: usize) -> [Line; 10] {
     let mut generator = Generator::new(11);
     let mix: Messages = (0..count).map(|_| generator.case()).map(|case| (case.kind, case.message)).collect();
-    let few = |message: Vec<u8>| vec![(1, message); count.div_ceil(50)];
+    let few_on = |kind, message: Vec<u8>| vec![(kind, message); count.div_ceil(50)];
+    let few = |message| few_on(1, message);
     [
         judge_and_copy("judge and copy, the mix", &mix),
         judge_and_copy("judge and copy, 453 bearers", &few(bearers(453))),
@@ -125,6 +136,7 @@ fn lines(count: usize) -> [Line; 9] {
         in_parts("pieces, the mix in one part", &mix, usize::MAX),
         in_parts("pieces, the mix in parts of 64 octets", &mix, 64),
         in_parts("pieces, the mix octet by octet", &mix, 1),
+        judge_and_copy("judge and copy, 58 PDN connections with a bearer each", &few_on(4, connections(58))),
     ]
 }
 

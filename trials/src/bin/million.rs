@@ -1,7 +1,7 @@
 //! The library against the second program on many generated messages: `million [COUNT [SEED]]`, 1,000,000 by default. Those that pin the
 //! figures come first. After every fifth message something is built, and every seventh is fed in parts too.
 use second::generate::{figures, Generator};
-use trials::{build_difference, difference, feed_difference};
+use trials::{build_difference, difference, feed_difference, is_deep};
 
 fn main() {
     let mut words = std::env::args().skip(1);
@@ -15,7 +15,7 @@ fn main() {
         _ => generator.case(),
     });
     let mut builder = Generator::new(!seed);
-    let (mut differences, mut builds, mut feeds, mut void) = (0, 0, 0, 0);
+    let (mut differences, mut builds, mut feeds, mut void, mut deep) = (0, 0, 0, 0, 0);
     for (turn, case) in figures().into_iter().chain(generated).take(count).enumerate() {
         let lent = case.buffers(seed.wrapping_add(turn as u64));
         if let Some(what) = difference(&case, lent[turn % lent.len()]) {
@@ -23,6 +23,7 @@ fn main() {
             println!("{what}\n{}", second::lines::case_line(&case));
         }
         void += usize::from(case.table_need() != case.table_need_with_insides());
+        deep += usize::from(is_deep(&case));
         if turn % 7 == 0 {
             if let Some(what) = feed_difference(&case.feed(seed.wrapping_add(turn as u64))) {
                 differences += 1;
@@ -40,6 +41,7 @@ fn main() {
             builds += 1;
         }
     }
-    println!("{count} messages, {void} with a void group, {feeds} in parts too, and {builds} builds, {differences} differences");
+    let met = format!("{void} with a void group, {deep} three levels deep, {feeds} in parts too");
+    println!("{count} messages, {met}, and {builds} builds, {differences} differences");
     std::process::exit(i32::from(differences > 0));
 }

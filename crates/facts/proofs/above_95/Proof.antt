@@ -27,7 +27,11 @@ returns-5 c = record { is = rw (ne-eqb _ _ (c .before .before .before .before .i
 
 returns-6 : tie.Need-returns-6
 unfolding above95
-returns-6 c = record { is = rw (ne-eqb _ _ (c .before .before .before .before .if1 .left), ne-eqb _ _ (c .before .before .before .if2 .left), ne-eqb _ _ (c .before .before .if3 .left), ne-eqb _ _ (c .before .if4 .left), ne-eqb _ _ (c .if5 .left)); low = omega arith }
+returns-6 c = record { is = rw (ne-eqb _ _ (c .before .before .before .before .before .if1 .left), ne-eqb _ _ (c .before .before .before .before .if2 .left), ne-eqb _ _ (c .before .before .before .if3 .left), ne-eqb _ _ (c .before .before .if4 .left), ne-eqb _ _ (c .before .if5 .left), eq-eqb _ _ (c .if6 .taken)); low = omega arith }
+
+returns-7 : tie.Need-returns-7
+unfolding above95
+returns-7 c = record { is = rw (ne-eqb _ _ (c .before .before .before .before .before .if1 .left), ne-eqb _ _ (c .before .before .before .before .if2 .left), ne-eqb _ _ (c .before .before .before .if3 .left), ne-eqb _ _ (c .before .before .if4 .left), ne-eqb _ _ (c .before .if5 .left), ne-eqb _ _ (c .if6 .left)); low = omega arith }
 
 pub above-95-spec : {M : Type 1} → statement M
-above-95-spec = tie.close (tie.spec returns returns-2 returns-3 returns-4 returns-5 returns-6)
+above-95-spec = tie.close (tie.spec returns returns-2 returns-3 returns-4 returns-5 returns-6 returns-7)

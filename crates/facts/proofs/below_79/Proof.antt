@@ -15,7 +15,11 @@ returns-2 c = record { is = rw (ne-eqb _ _ (c .before .if1 .left), eq-eqb _ _ (c
 
 returns-3 : tie.Need-returns-3
 unfolding below79
-returns-3 c = record { is = rw (ne-eqb _ _ (c .before .if1 .left), ne-eqb _ _ (c .if2 .left)); low = omega arith }
+returns-3 c = record { is = rw (ne-eqb _ _ (c .before .before .if1 .left), ne-eqb _ _ (c .before .if2 .left), eq-eqb _ _ (c .if3 .taken)); low = omega arith }
+
+returns-4 : tie.Need-returns-4
+unfolding below79
+returns-4 c = record { is = rw (ne-eqb _ _ (c .before .before .if1 .left), ne-eqb _ _ (c .before .if2 .left), ne-eqb _ _ (c .if3 .left)); low = omega arith }
 
 pub below-79-spec : {M : Type 1} → statement M
-below-79-spec = tie.close (tie.spec returns returns-2 returns-3)
+below-79-spec = tie.close (tie.spec returns returns-2 returns-3 returns-4)

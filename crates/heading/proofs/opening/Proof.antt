@@ -12,6 +12,7 @@ use lib.Dec.{ltb}
 use lib.ListN.{length, drop}
 use denote.Ref.{now}
 use Rattle.rules.specs.Framing.{messageType}
+use Rattle.rules.specs.Types.{among}
 use Rattle.rules.specs.Listings.{book, isMessage, messageOf}
 use Rattle.rules.specs.Verdicts.{refused, check, first, openingChecks}
 use Rattle.rules.specs.declared.Verdict.{Verdict}
@@ -26,6 +27,10 @@ off v vs e = rw e
 on : {a : Bool} (n cause : ℕ) (vs : List Verdict) → ltb 0 n ≡ true → a ≡ true → first (check a (refused n cause) ∷ vs) ≡ refused n cause
 unfolding first check
 on n cause vs p e = rw (e, p)
+
+un-not : (a : Bool) → not a ≡ false → a ≡ true
+un-not true e = refl
+un-not false e = sym e
 
 -- ---- the checks from number n + 1 on give the answer
 
@@ -85,7 +90,21 @@ past8 : (c : tie.Else9) → From (start8 c) 8
 unfolding messageOf messageType
 past8 c =
     past7 (c .before .before) ∙
-    off _ _ (rw (c .before .right-t .ensures, c .before .before .before .seek .ensures .is) at (c .if9 .left))
+    off _ _ (rw (c .before .right-kind .ensures, c .before .before .before .seek .ensures .is) at (c .if9 .left))
+
+abbrev start9 : tie.Else10 → tie.Start
+start9 c = start8 (c .before .before)
+
+past9 : (c : tie.Else10) → From (start9 c) 9
+unfolding messageOf messageType
+past9 c =
+    past8 (c .before .before) ∙
+    off _ _ (rw (c .before .right-t .ensures, c .before .before .before .before .before .seek .ensures .is) at (c .if10 .left))
+
+-- ---- the kind is one
+
+is-kind : (c : tie.Else1) → among (start1 c .args .kind) (book .kinds) ≡ true
+is-kind c = un-not (among (start1 c .args .kind) (book .kinds)) (rw (c .before .known .ensures) at (c .if1 .left))
 
 -- ---- the octets that are read are there
 
@@ -184,8 +203,11 @@ returns-8 c =
     (past6 (c .before .before .before .before) ∙
     on 7 0 _ refl (ap not (le-ltb _ _ (rw (c .before .before .seek .ensures .is, ← count) at (c .before .if8 .taken)))))
 
-right-t-requires : tie.Need-right-t-requires
-right-t-requires c κs = record { some = some (c .before .before .before .before .before .before .before .before .before .before .before); listed = omega (arith, count, c .before .seek .ensures .most, c .if8 .left) }
+right-kind-requires : tie.Need-right-kind-requires
+right-kind-requires c κs = record {
+  kind-is = is-kind (c .before .before .before .before .before .before .before .before .before .before .before .before .before);
+  listed = omega (arith, count, c .before .seek .ensures .most, c .if8 .left);
+}
 
 refuse-requires-9 : tie.Need-refuse-requires-9
 refuse-requires-9 c κs = search needs
@@ -196,14 +218,31 @@ returns-9 c =
     c .refuse9 .ensures ∙
     sym
     (past7 (c .before .before .before) ∙
-    on 8 0 _ refl (rw (c .before .before .right-t .ensures, c .before .before .before .before .seek .ensures .is) at (c .before .if9 .taken)))
+    on 21 0 _ refl (rw (c .before .before .right-kind .ensures, c .before .before .before .before .seek .ensures .is) at (c .before .if9 .taken)))
+
+right-t-requires : tie.Need-right-t-requires
+right-t-requires c κs = record {
+  some = some (c .before .before .before .before .before .before .before .before .before .before .before .before .before);
+  listed = omega (arith, count, c .before .before .before .seek .ensures .most, c .before .before .if8 .left);
+}
+
+refuse-requires-10 : tie.Need-refuse-requires-10
+refuse-requires-10 c κs = search needs
+
+returns-10 : tie.Need-returns-10
+unfolding messageOf messageType
+returns-10 c =
+    c .refuse10 .ensures ∙
+    sym
+    (past8 (c .before .before .before) ∙
+    on 8 0 _ refl (rw (c .before .before .right-t .ensures, c .before .before .before .before .before .before .seek .ensures .is) at (c .before .if10 .taken)))
 
 accept-requires : tie.Need-accept-requires
 accept-requires c κs = search needs
 
-returns-10 : tie.Need-returns-10
+returns-11 : tie.Need-returns-11
 unfolding first
-returns-10 c = c .accept .ensures ∙ sym (past8 (c .before))
+returns-11 c = c .accept .ensures ∙ sym (past9 (c .before))
 
 pub opening-spec : {M : Type 1} → statement M
 opening-spec =
@@ -233,8 +272,11 @@ opening-spec =
     seek-requires
     refuse-requires-8
     returns-8
-    right-t-requires
+    right-kind-requires
     refuse-requires-9
     returns-9
+    right-t-requires
+    refuse-requires-10
+    returns-10
     accept-requires
-    returns-10)
+    returns-11)

@@ -16,17 +16,17 @@ use Rattle.heading.proofs.seek.Tie as tie
 
 record Searching (t : ℕ) (types : List ℕ) (n : ℕ) : Type 0 where
   types-are : types ≡ typesOf (book .messages)
-  most : n ≤ 9
+  most : n ≤ 10
   goes : seekMessage (book .messages) t ≡ n + seekMessage (drop n (book .messages)) t
 
 module _ {t : ℕ} {types : List ℕ} {n : ℕ} (s : Searching t types n) where
-  at-own : n < 9 → getD types n 0 ≡ t → Sought t n
+  at-own : n < 10 → getD types n 0 ≡ t → Sought t n
   at-own h e = record {
     is = omega (arith, s .goes, message-found (book .messages) n t (omega (arith, count)) (rw (s .types-are) at e));
     most = omega (arith, count, s .most);
   }
 
-  at-end : 9 ≤ n → Sought t n
+  at-end : 10 ≤ n → Sought t n
   unfolding seekMessage
   at-end h = record { is = omega (arith, s .goes, none); most = omega (arith, count, s .most) }
     where
@@ -36,7 +36,7 @@ module _ {t : ℕ} {types : List ℕ} {n : ℕ} (s : Searching t types n) where
       none : seekMessage (drop n (book .messages)) t ≡ 0
       none = rw (n-is, drop-length (book .messages))
 
-  turned : n < 9 → (getD types n 0 ≡ t → ⊥) → Searching t types (n + 1)
+  turned : n < 10 → (getD types n 0 ≡ t → ⊥) → Searching t types (n + 1)
   turned h x = record {
     types-are = s .types-are;
     most = omega arith;
@@ -47,7 +47,7 @@ abbrev Inv-loop : tie.InvT-loop
 Inv-loop typ types n₀ n = Searching typ types n
 
 abbrev μ-loop : tie.MeasureT-loop
-μ-loop typ types n₀ n = 9 - n
+μ-loop typ types n₀ n = 10 - n
 
 loop-holds : tie.Need-loop-holds Inv-loop μ-loop
 unfolding book messages

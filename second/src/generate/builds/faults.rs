@@ -11,8 +11,8 @@ use crate::DOCUMENT;
 type Shape = fn(&mut Random, &mut Build);
 
 /// On the rows of a cleaned copy. What comes of each by itself: first those that
-/// stay acceptable, then 1 and 7, then 14, then what may be 16 or nothing.
-const OF_KEPT: [Shape; 36] = [
+/// stay acceptable, then 1, 7 and 21, then 14, then what may be 16 or nothing.
+const OF_KEPT: [Shape; 40] = [
     as_it_is,
     moved,
     other_group_numbers,
@@ -26,6 +26,10 @@ const OF_KEPT: [Shape; 36] = [
     kind_and_type,
     kind_and_table,
     type_and_table,
+    off_kind,
+    off_kind_and_table,
+    off_kind_and_room,
+    off_kind_and_short_table,
     old_table,
     tiny_table,
     tiny_table_with_faults,
@@ -215,7 +219,7 @@ fn overfilled(_: &mut Random, build: &mut Build) {
 /// A kind beside those that there are, and kinds past an octet.
 fn other_kind(random: &mut Random, build: &mut Build) {
     let own = build.table[KIND];
-    build.table[KIND] = *random.pick(&[0, 4, own + 256, own | 1 << 15, u16::MAX]);
+    build.table[KIND] = *random.pick(&[0, 5, own + 256, own | 1 << 15, u16::MAX]);
 }
 
 /// Another listed type, one that is not listed, and types past an octet.
@@ -236,7 +240,7 @@ fn other_type(random: &mut Random, build: &mut Build) {
 
 fn unlisted_type(random: &mut Random, build: &mut Build) {
     let own = build.table[TYPE];
-    build.table[TYPE] = *random.pick(&[0, 3, 70, 256, own + 256]);
+    build.table[TYPE] = *random.pick(&[0, 3, 70, 130, 256, own + 256]);
 }
 
 fn kind_and_type(random: &mut Random, build: &mut Build) {
@@ -252,6 +256,37 @@ fn kind_and_table(random: &mut Random, build: &mut Build) {
 
 fn type_and_table(random: &mut Random, build: &mut Build) {
     unlisted_type(random, build);
+    cut_table(random, build);
+}
+
+/// A kind that the message is not on; one that is on all of them gets another type.
+fn off_kind(random: &mut Random, build: &mut Build) {
+    let own = u8::try_from(build.table[TYPE]).unwrap_or_default();
+    let listed = DOCUMENT.message_of(own).expect("an accepted message");
+    match random.kind_off(listed) {
+        Some(kind) => build.table[KIND] = kind as u16,
+        None => {
+            let kind = random.kind();
+            build.table[KIND] = kind as u16;
+            build.table[TYPE] = random.type_off(kind).into();
+        }
+    }
+}
+
+fn off_kind_and_table(random: &mut Random, build: &mut Build) {
+    let faults: [Shape; 4] = [standing_uncounted, over_type, parent, outside];
+    random.pick(&faults)(random, build);
+    off_kind(random, build);
+}
+
+fn off_kind_and_room(random: &mut Random, build: &mut Build) {
+    overfilled(random, build);
+    off_kind(random, build);
+}
+
+/// One that has a header, or has not.
+fn off_kind_and_short_table(random: &mut Random, build: &mut Build) {
+    off_kind(random, build);
     cut_table(random, build);
 }
 
@@ -423,7 +458,7 @@ fn repeated(random: &mut Random, build: &mut Build) {
 fn unexpected(random: &mut Random, build: &mut Build) {
     if let Some(at) = some_row(random, build) {
         let mut rows = build.rows().to_vec();
-        let typ = *random.pick(&[200, 255, 73, 86, 93, 180]);
+        let typ = *random.pick(&[200, 255, 73, 86, 93, 109, 180]);
         let inst = random.below(16) as u16;
         let row = [rows[at][0], typ, inst, 0, 4, 0];
         insert(&mut rows, at, row);

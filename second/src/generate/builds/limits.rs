@@ -13,7 +13,7 @@ const MOST_COUNTED: usize = 10_921;
 /// Every message type there could be, and those past an octet that look like a
 /// listed one once they are cut.
 pub fn types(random: &mut Random) -> Vec<Build> {
-    let types = 0..=256 + 97;
+    let types = 0..=256 + 131;
     let build = |typ| {
         let mut build = small(random);
         build.table[TYPE] = typ;

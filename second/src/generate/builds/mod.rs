@@ -137,7 +137,7 @@ pub fn builds() -> Vec<Build> {
     let mut builds = Vec::new();
     for _ in 0..ROUNDS {
         for message in &DOCUMENT.messages {
-            for kind in DOCUMENT.kinds.clone() {
+            for kind in message.kinds.each() {
                 for shape in 0..faults::SHAPES {
                     let case = good(&mut random, kind, message);
                     builds.push(faults::shaped(&mut random, &case, shape));

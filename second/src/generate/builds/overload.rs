@@ -6,7 +6,7 @@ use crate::generate::random::Random;
 use crate::generate::tables::{table_of, Row};
 use crate::{Head, DOCUMENT};
 
-const MESSAGE: u16 = 67;
+const MESSAGE: u8 = 67;
 const COUNTS: std::ops::RangeInclusive<usize> = 9..=13;
 const VALUES: usize = 16;
 
@@ -14,7 +14,8 @@ const VALUES: usize = 16;
 /// mandatory, with an APN of another instance, and with a second report.
 pub fn overloads(random: &mut Random) -> Vec<Build> {
     let mut builds = Vec::new();
-    for kind in DOCUMENT.kinds.clone() {
+    let message = DOCUMENT.message_of(MESSAGE).expect("67 is listed");
+    for kind in message.kinds.each() {
         for count in COUNTS {
             for shape in 0..5 {
                 let rows = rows(random, count, shape);
@@ -23,7 +24,7 @@ pub fn overloads(random: &mut Random) -> Vec<Build> {
                         teid: random.number() as u32,
                         sequence: random.number() as u32 >> 8,
                     },
-                    table: table_of(MESSAGE, kind as u16, &rows),
+                    table: table_of(MESSAGE.into(), kind as u16, &rows),
                     values: random.octets(VALUES),
                 });
             }

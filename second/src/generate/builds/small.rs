@@ -6,13 +6,19 @@ use crate::generate::tables::{table_of, Row};
 use crate::{Head, DOCUMENT};
 
 /// Types of rows: those that small messages demand, groups, and some others.
-const TYPES: [u16; 14] = [3, 3, 2, 73, 73, 93, 93, 180, 255, 100, 85, 1, 152, 200];
+const TYPES: [u16; 16] = [
+    3, 3, 2, 2, 73, 73, 93, 93, 109, 180, 255, 100, 85, 1, 152, 200,
+];
 const MOST_ROWS: usize = 6;
 const VALUES: usize = 12;
 
 pub fn small(random: &mut Random) -> Build {
-    let kind = random.kind() as u16;
-    let typ = random.pick(&DOCUMENT.messages).typ.into();
+    let message = random.pick(&DOCUMENT.messages);
+    let kind = match random.percent(95) {
+        true => random.kind_of(message),
+        false => random.kind(),
+    };
+    let (typ, kind) = (message.typ.into(), kind as u16);
     let head = Head {
         teid: random.number() as u32,
         sequence: random.number() as u32 >> 8,

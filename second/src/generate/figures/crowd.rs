@@ -49,7 +49,7 @@ impl Figures {
     /// An echo of so many elements, the first with a value of `first` octets.
     fn rows(&mut self, count: usize, first: usize) {
         let message = self.random.pick(&DOCUMENT.messages[..2]);
-        let typ = *self.random.pick(&[3, 93, 152, 180, 200, 255]);
+        let typ = *self.random.pick(&[3, 93, 109, 152, 180, 200, 255]);
         let value = self.values.some(&mut self.random, first);
         let mut elements = vec![Element::plain(3, 0, value)];
         elements.resize(count, Element::plain(typ, 0, Vec::new()));
@@ -64,7 +64,7 @@ impl Figures {
     /// A good message with a private extension that makes it so long.
     fn filled(&mut self, length: usize) {
         let message = self.random.pick(&DOCUMENT.messages);
-        let kind = self.random.kind();
+        let kind = self.random.kind_of(message);
         let draft = self.draft(kind, message, Which::All, Fit::Exact);
         let mut message = draft.octets(&mut self.random);
         let rest = length - message.len() - 4;

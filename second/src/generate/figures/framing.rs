@@ -11,16 +11,16 @@ impl Figures {
             for left in DOCUMENT.sizes.remnant.clone() {
                 self.left_over(&level, left);
             }
-            for more in [1, self.beyond(), -1] {
+            for more in [1, 2, self.beyond(), -1] {
                 self.last_claims(&level, more);
             }
             self.short_before(&level);
         }
     }
 
-    /// Some more octets than one, up to those of the autumn night.
+    /// Some more octets than two, up to those of the autumn night.
     fn beyond(&self) -> i32 {
-        2 + (self.round % 8) as i32
+        3 + (self.round % 7) as i32
     }
 
     fn left_over(&mut self, level: &Level, left: usize) {

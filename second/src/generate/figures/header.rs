@@ -1,5 +1,7 @@
 //! What checks 1 to 8 pin, each alone and each with the next.
 
+use std::cmp::Ordering;
+
 use super::value::Fit;
 use super::{Figures, Which};
 use crate::generate::draft::mend_length;
@@ -9,7 +11,7 @@ use crate::DOCUMENT;
 type Fault = fn(&mut Figures, &mut Case);
 
 /// The fault of each check, in the order of the checks.
-const FAULTS: [Fault; 9] = [
+const FAULTS: [Fault; 10] = [
     Figures::other_kind,
     Figures::oversize,
     Figures::other_version,
@@ -17,9 +19,13 @@ const FAULTS: [Fault; 9] = [
     Figures::piggybacked,
     Figures::other_length,
     Figures::other_type,
+    Figures::off_kind,
     Figures::other_teid,
     Figures::remnant,
 ];
+
+/// Where the fault of a wrong kind stands among them.
+const OFF_KIND: usize = 7;
 
 impl Figures {
     pub fn headers(&mut self) {
@@ -31,6 +37,7 @@ impl Figures {
                 self.damaged(&[next, fault]);
             }
         }
+        self.off_kinds();
         self.kinds();
         self.header_lengths();
         self.message_types();
@@ -38,7 +45,7 @@ impl Figures {
 
     fn good(&mut self) -> Case {
         let message = self.random.pick(&DOCUMENT.messages);
-        let kind = self.random.kind();
+        let kind = self.random.kind_of(message);
         let draft = self.draft(kind, message, Which::Mandatory, Fit::Over);
         Case {
             kind,
@@ -55,7 +62,7 @@ impl Figures {
     }
 
     fn other_kind(&mut self, case: &mut Case) {
-        case.kind = *self.random.pick(&[0, 4, 5, 255, 257, 258, u32::MAX]);
+        case.kind = *self.random.pick(&[0, 5, 6, 255, 257, 258, u32::MAX]);
     }
 
     fn oversize(&mut self, case: &mut Case) {
@@ -92,6 +99,44 @@ impl Figures {
     fn other_type(&mut self, case: &mut Case) {
         while DOCUMENT.message_of(case.message[1]).is_some() {
             case.message[1] = self.random.octet();
+        }
+    }
+
+    /// A kind that the message is not on; one that is on all of them gets another
+    /// type. A kind that is none stays, and so does a type that is not listed.
+    fn off_kind(&mut self, case: &mut Case) {
+        let Some(listed) = DOCUMENT.message_of(case.message[1]) else {
+            return;
+        };
+        match self.random.kind_off(listed) {
+            Some(kind) => case.kind = kind,
+            None => {
+                case.kind = self.random.kind();
+                case.message[1] = self.random.type_off(case.kind);
+            }
+        }
+    }
+
+    /// A message on a wrong kind with each of the other faults, and each message
+    /// whole on each kind that it is not on.
+    fn off_kinds(&mut self) {
+        for (at, &fault) in FAULTS.iter().enumerate() {
+            // The later fault goes in first here too.
+            match at.cmp(&OFF_KIND) {
+                Ordering::Less => self.damaged(&[FAULTS[OFF_KIND], fault]),
+                Ordering::Equal => {}
+                Ordering::Greater => self.damaged(&[fault, FAULTS[OFF_KIND]]),
+            }
+        }
+        for message in &DOCUMENT.messages {
+            let off = DOCUMENT.kinds.clone();
+            for kind in off.filter(|&kind| !message.kinds.has(kind)) {
+                for which in [Which::Mandatory, Which::All] {
+                    let own = self.random.kind_of(message);
+                    let draft = self.draft(own, message, which, Fit::Over);
+                    self.put(kind, &draft);
+                }
+            }
         }
     }
 
@@ -142,12 +187,16 @@ impl Figures {
         for length in 1..=14 {
             for flags in [0x40, 0x48] {
                 let mut message = self.values.some(&mut self.random, length);
+                let kind = self.random.kind();
                 message[0] = flags;
                 if length >= 4 {
-                    message[1] = if flags == 0x40 { 1 } else { 66 };
+                    message[1] = match (flags, kind) {
+                        (0x40, _) => 1,
+                        (_, 4) => 131,
+                        _ => 66,
+                    };
                     mend_length(&mut message);
                 }
-                let kind = self.random.kind();
                 self.cases.push(Case { kind, message });
             }
         }

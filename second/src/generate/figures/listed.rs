@@ -1,7 +1,7 @@
 //! What the listings pin: lines, least lengths and standings.
 
 use super::value::{beside, classes, first_octet, Fit, FITS};
-use super::{is_group, levels, Figures, Level, Which};
+use super::{is_group, levels, turns, Figures, Level, Which};
 use crate::generate::draft::{Draft, Element, Value};
 use crate::rules::{position, Least, Listed};
 use crate::DOCUMENT;
@@ -9,7 +9,7 @@ use crate::DOCUMENT;
 impl Figures {
     pub fn listed(&mut self) {
         for message in &DOCUMENT.messages {
-            for kind in DOCUMENT.kinds.clone() {
+            for kind in turns(message) {
                 for (which, fit) in WHOLE {
                     let mut draft = self.draft(kind, message, which, fit);
                     if self.odd_round() {
@@ -74,7 +74,7 @@ impl Figures {
     }
 
     /// Mandatory lines left out: one, two that follow each other, and all; in a
-    /// group also with all of the body's own left out.
+    /// group also with all of some level's around it left out.
     fn missing(&mut self, level: &Level) {
         let mandatory = mandatory_of(level.listing, level.kind);
         for at in 0..mandatory.len() {
@@ -83,10 +83,22 @@ impl Figures {
                 self.put_edited(level, draft);
             }
         }
-        let mut draft = self.without(level, &mandatory);
+        let draft = self.without(level, &mandatory);
         self.put_edited(level, draft.clone());
-        if !level.path.is_empty() {
-            leave_out(&mut draft, level);
+        self.put_lacking_around(level, &draft);
+    }
+
+    /// The message with all that some level around this one demands left out, and
+    /// where there are more of these, with that of all of them.
+    fn put_lacking_around(&mut self, level: &Level, draft: &Draft) {
+        let depths = level.path.len();
+        let each = (0..depths).map(|depth| depth..depth + 1);
+        let all = (depths > 1).then_some(0..depths);
+        for lacking in each.chain(all) {
+            let mut draft = draft.clone();
+            for depth in lacking {
+                leave_out(&mut draft, level, depth);
+            }
             self.put_edited(level, draft);
         }
     }
@@ -101,7 +113,7 @@ impl Figures {
     }
 
     /// Mandatory elements that are short: alone, with a good one after, and in a
-    /// group with all of the body's own left out.
+    /// group with all of some level's around it left out.
     fn short(&mut self, level: &Level) {
         for listed in mandatory_of(level.listing, level.kind) {
             let classes = if is_group(listed.typ) {
@@ -112,12 +124,9 @@ impl Figures {
             for class in 0..classes {
                 let short = self.of_class(listed, class, Fit::Short);
                 let good = self.of_class(listed, class, Fit::Over);
-                let mut draft = self.with(level, listed, vec![short.clone()]);
+                let draft = self.with(level, listed, vec![short.clone()]);
                 self.put_edited(level, draft.clone());
-                if !level.path.is_empty() {
-                    leave_out(&mut draft, level);
-                    self.put_edited(level, draft);
-                }
+                self.put_lacking_around(level, &draft);
                 let draft = self.with(level, listed, vec![short, good]);
                 self.put_edited(level, draft);
             }
@@ -175,8 +184,9 @@ impl Figures {
                 .map(|class| first_octet(random, typ, class))
                 .collect();
         }
-        let kinds = DOCUMENT.kinds.clone().count();
-        if self.round % kinds != level.kind as usize % kinds {
+        let mut on = level.message.kinds.each();
+        let kinds = on.len();
+        if on.nth(self.round % kinds) != Some(level.kind) {
             return Vec::new();
         }
         let other = ((self.round / kinds % 4) << 6) as u8;
@@ -216,12 +226,19 @@ pub fn mandatory_of(listing: &'static [Listed], kind: u32) -> Vec<&'static Liste
     listing.iter().filter(mandatory).collect()
 }
 
-/// Takes out of the body what it demands, groups excepted.
-fn leave_out(draft: &mut Draft, level: &Level) {
-    let mandatory = mandatory_of(&level.message.body, level.kind);
+/// Takes out of the body, or of so deep a group around a level, what it demands,
+/// groups excepted.
+fn leave_out(draft: &mut Draft, level: &Level, depth: usize) {
+    let listing = match depth.checked_sub(1) {
+        None => &level.message.body,
+        Some(group) => &level.around()[group].inside,
+    };
+    let mandatory = mandatory_of(listing, level.kind);
     let is_left_out = |e: &Element| mandatory.iter().any(|listed| listed.is(e.typ, e.inst));
     let stays = |e: &Element| is_group(e.typ) || !is_left_out(e);
-    draft.body.elements.retain(stays);
+    if let Some(run) = draft.body.at(&level.path[..depth]) {
+        run.elements.retain(stays);
+    }
 }
 
 const WHOLE: [(Which, Fit); 6] = [

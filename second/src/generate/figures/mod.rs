@@ -3,6 +3,7 @@
 //! rounds; each round has every shape once, filled and mixed by chance.
 
 mod crowd;
+mod deep;
 mod framing;
 mod header;
 mod listed;
@@ -35,6 +36,7 @@ pub fn figures() -> Vec<Case> {
         figures.headers();
         figures.crowds();
         figures.overloads();
+        figures.deep();
     }
     figures.cases
 }
@@ -71,20 +73,42 @@ struct Level {
 }
 
 impl Level {
+    /// The lines of the groups around it, from the outermost on.
+    fn around(&self) -> Vec<&'static Listed> {
+        let mut listing = &self.message.body[..];
+        let mut around = Vec::new();
+        for &(typ, inst) in &self.path {
+            let group = listing.iter().find(|listed| listed.is(typ, inst));
+            let group = group.expect("a level's groups are listed");
+            around.push(group);
+            listing = &group.inside;
+        }
+        around
+    }
+
     fn is_listed(&self, listed: &Listed) -> bool {
         listed.kinds.has(self.kind)
     }
 }
 
-/// Every level of every message on every kind.
+/// Every level of every message on every kind that it is on.
 fn levels() -> Vec<Level> {
     let mut levels = Vec::new();
     for message in &DOCUMENT.messages {
-        for kind in DOCUMENT.kinds.clone() {
+        for kind in turns(message) {
             push_levels(&mut levels, message, kind, Vec::new(), &message.body);
         }
     }
     levels
+}
+
+/// The kinds of a message in their turns. One that is on fewer kinds than most is on
+/// each of them as often.
+fn turns(message: &Message) -> Vec<u32> {
+    const MOST: usize = 3;
+    let kinds = message.kinds.each();
+    let count = kinds.len().max(MOST);
+    kinds.cycle().take(count).collect()
 }
 
 fn push_levels(
@@ -165,15 +189,23 @@ impl Figures {
     }
 
     /// Puts a message down in which one level was edited; in every other round
-    /// a good group stands before the edited one, where it may.
+    /// a good group stands before the edited one, and before each group around it,
+    /// where it may.
     fn put_edited(&mut self, level: &Level, mut draft: Draft) {
-        let groups = level.message.body.iter();
-        let mut groups = groups.filter(|listed| listed.many && level.is_listed(listed));
-        let outermost = level.path.first();
-        let group = outermost.and_then(|&(typ, inst)| groups.find(|group| group.is(typ, inst)));
-        if let Some(group) = group.filter(|_| self.odd_round()) {
+        let around = if self.odd_round() {
+            level.around()
+        } else {
+            Vec::new()
+        };
+        // From the innermost on, since a good one is then the first of its pair.
+        for (depth, group) in around.iter().enumerate().rev() {
+            if !group.many || !level.is_listed(group) {
+                continue;
+            }
             let good = self.element(level.kind, group, Which::Groups, Fit::Exact);
-            draft.body.elements.insert(0, good);
+            if let Some(run) = draft.body.at(&level.path[..depth]) {
+                run.elements.insert(0, good);
+            }
         }
         self.put(level.kind, &draft);
     }

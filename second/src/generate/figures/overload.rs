@@ -9,7 +9,7 @@ use crate::rules::{position, Listed};
 use crate::DOCUMENT;
 
 /// Types that a void group may hold and that are covered otherwise elsewhere.
-const COVERED: [u8; 7] = [1, 75, 76, 78, 79, 86, 255];
+const COVERED: [u8; 14] = [1, 74, 75, 76, 78, 79, 86, 103, 104, 105, 106, 107, 108, 255];
 
 /// The line of a level that has a limit, and the limit.
 fn limit_of(level: &Level) -> Option<(&'static Listed, usize)> {
@@ -93,7 +93,7 @@ impl Figures {
             elements: self.times(line, count, Fit::Over),
             remnant: Vec::new(),
         };
-        let typ = *self.random.pick(&[93, 180]);
+        let typ = *self.random.pick(&[93, 109, 180]);
         Element {
             value: Value::Group(run),
             ..Element::plain(typ, 0, Vec::new())
@@ -256,12 +256,19 @@ impl Figures {
     }
 
     /// More elements of a line without a limit than any limit lets stand.
-    fn many_of(&mut self, level: &Level, listed: &Listed) {
+    fn many_of(&mut self, level: &Level, listed: &'static Listed) {
         let Some(most) = most() else {
             return;
         };
         let count = most + 1 + self.round % 3;
-        let elements = self.times(listed, count, Fit::Over);
+        let elements = match is_group(listed.typ) {
+            true => {
+                let kind = level.kind;
+                let one = |_| self.element(kind, listed, Which::Mandatory, Fit::Exact);
+                (0..count).map(one).collect()
+            }
+            false => self.times(listed, count, Fit::Over),
+        };
         let draft = self.filled_with(level, elements);
         self.put_edited(level, draft);
     }

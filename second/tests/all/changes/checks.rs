@@ -7,6 +7,9 @@ use super::{Changes, Shown, ON_ALL};
 use second::rules::{Check, Order, STANDINGS};
 use second::{Rules, DOCUMENT};
 
+/// Why it does not matter which of 7 and 21 is tested first.
+const EXCLUSIVE: &str = "a type that is not listed is off no kind, so that one of the two applies";
+
 impl Changes {
     pub fn of_checks(&mut self) {
         self.of_judge();
@@ -39,10 +42,13 @@ impl Changes {
             let change = self.push(CLASS, name.clone(), ON_ALL, |rules| {
                 rules.checks.judge = Order::new(&other)
             });
-            change.shown_by(match is_lent {
-                true => &[Shown::Octets, Shown::Lends],
-                false => &[Shown::Octets],
-            });
+            let is_exclusive = pair == [Check::Type, Check::OffKind];
+            change
+                .shown_by(match is_lent {
+                    true => &[Shown::Octets, Shown::Lends],
+                    false => &[Shown::Octets],
+                })
+                .silent_where(is_exclusive, EXCLUSIVE);
             let change = self.push(CLASS, name, ON_ALL, |rules| {
                 rules.checks.judge = Order::new(&other)
             });
@@ -50,13 +56,33 @@ impl Changes {
             let is_silent = pair.contains(&Check::CopyRoom);
             change
                 .shown_by(&[Shown::Pieces])
-                .silent_where(is_silent, why);
+                .silent_where(is_silent, why)
+                .silent_where(is_exclusive, EXCLUSIVE);
+        }
+        // A wrong kind of the message at every other place up to the walk, and
+        // right after it.
+        let others = checks.iter().copied();
+        let others = others.filter(|&check| check != Check::OffKind);
+        let others = others.collect::<Vec<_>>();
+        for at in 0..=9 {
+            let mut other = others.clone();
+            other.insert(at, Check::OffKind);
+            if other != checks {
+                let name = format!("OffKind at {at}");
+                let change = self.push(CLASS, name, ON_ALL, |rules| {
+                    rules.checks.judge = Order::new(&other)
+                });
+                let is_before_type = other[at + 1] == Check::Type;
+                change
+                    .shown_by(&[Shown::Octets, Shown::Pieces])
+                    .silent_where(is_before_type, EXCLUSIVE);
+            }
         }
         // Each of the two checks of what is lent at every other place after 8.
         for moved in [Check::CopyRoom, Check::TableRoom] {
             let others = checks.iter().copied().filter(|&check| check != moved);
             let others = others.collect::<Vec<_>>();
-            for at in 8..=others.len() {
+            for at in 9..=others.len() {
                 let mut other = others.clone();
                 other.insert(at, moved);
                 if other != checks {
@@ -108,19 +134,20 @@ impl Changes {
             let change = self.push(class, name, ON_ALL, |rules| {
                 *order(rules) = Order::new(&other)
             });
-            change.shown_by(shown);
+            let is_exclusive = checks[at..at + 2] == [Check::Type, Check::OffKind];
+            change.shown_by(shown).silent_where(is_exclusive, EXCLUSIVE);
         }
     }
 
     fn of_causes(&mut self) {
-        for code in Check::Kind as usize..=Check::Ended as usize {
+        for code in (1..=17).chain([Check::OffKind as usize]) {
             for by in [1, u16::MAX] {
                 let change = self.push("causes", format!("of {code}"), ON_ALL, |rules| {
                     let cause = &mut rules.checks.causes[code];
                     *cause = cause.wrapping_add(by);
                 });
                 change.shown_by(match code {
-                    1 | 7 => &[Shown::Octets, Shown::Builds, Shown::Pieces],
+                    1 | 7 | 21 => &[Shown::Octets, Shown::Builds, Shown::Pieces],
                     13 => &[Shown::Octets, Shown::Lends],
                     14..=16 => &[Shown::Builds],
                     17 => &[Shown::Pieces],

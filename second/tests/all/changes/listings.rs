@@ -60,7 +60,7 @@ impl Place {
     /// Is the line's level entered on that kind?
     fn is_entered(&self, kind: u32) -> bool {
         let mut around = self.around().into_iter();
-        around.all(|group| group.kinds.has(kind))
+        self.message().kinds.has(kind) && around.all(|group| group.kinds.has(kind))
     }
 
     fn bears(&self) -> Bears {
@@ -121,6 +121,13 @@ impl Changes {
         self.push("type of a message", name("not listed"), bears, |rules| {
             rules.messages.remove(number);
         });
+        for kind in DOCUMENT.kinds.clone() {
+            let name = format!("{}: kind {kind}", message.typ);
+            let change = self.push("kinds of a message", name, bears, |rules| {
+                rules.messages[number].kinds.0 ^= 1 << kind;
+            });
+            change.shown_by(&[Octets, Builds, Pieces]);
+        }
     }
 
     fn of_added_messages(&mut self) {
@@ -130,7 +137,12 @@ impl Changes {
                 let bears = on_message(typ);
                 self.push("message too many", name, bears, |rules| {
                     let body = rules.messages[0].body.clone();
-                    rules.messages.push(Message { typ, teid, body });
+                    rules.messages.push(Message {
+                        typ,
+                        teid,
+                        kinds: ALL,
+                        body,
+                    });
                 });
             }
         }
@@ -182,7 +194,7 @@ impl Changes {
             let change = self.line("kinds of a line", place, |listed| {
                 listed.kinds.0 ^= 1 << kind;
             });
-            let why = "the group around the line is not entered on that kind";
+            let why = "the message is not on that kind, or the group around the line not entered";
             change.silent_where(!place.is_entered(kind), why);
         }
     }

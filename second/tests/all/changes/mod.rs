@@ -55,7 +55,7 @@ pub fn changes() -> Vec<Change> {
 
 struct Changes(Vec<Change>);
 
-const ALL: Kinds = Kinds(0b1110);
+const ALL: Kinds = Kinds(0b1_1110);
 
 const ON_ALL: Bears = Bears {
     message: None,

@@ -21,8 +21,8 @@ returns-3 : tie.Need-returns-3
 unfolding takes
 returns-3 c = record { is = sym (and-yes _ _ _ (ap not (c .before .before .before .before .if1 .left)) (and-yes _ _ _ (eq-eqb _ _ (c .before .before .if2 .left)) (and-no _ _ (lt-leb _ _ (c .if3 .taken))))); fits = λ e. never e }
 
-two-requires : tie.Need-two-requires
-two-requires c κs = search needs
+three-requires : tie.Need-three-requires
+three-requires c κs = search needs
 
 four-requires : tie.Need-four-requires
 four-requires c κs = search needs
@@ -32,9 +32,9 @@ fits-requires c κs = search needs
 
 returns-4 : tie.Need-returns-4
 unfolding takes
-returns-4 c = record { is = c .fits2 .ensures ∙ sym (and-yes _ _ _ (ap not (c .before .before .before .before .before .before .before .before .before .before .if1 .left)) (and-yes _ _ _ (eq-eqb _ _ (c .before .before .before .before .before .before .before .before .if2 .left)) (and-yes _ _ _ (le-leb _ _ (c .before .before .before .before .before .before .if3 .left)) (refl)))); fits = λ e. record { fits = test-fits (c .before .before .before .before .before .before .before .before .before .before .before .args .p .kind) (c .before .before .before .before .before .before .before .before .before .before .before .args .p .going) (c .before .before .two .ensures) (c .before .four .ensures) (sym (c .fits2 .ensures) ∙ e); count = c .before .before .before .before .before .before .if3 .left } }
+returns-4 c = record { is = c .fits2 .ensures ∙ sym (and-yes _ _ _ (ap not (c .before .before .before .before .before .before .before .before .before .before .if1 .left)) (and-yes _ _ _ (eq-eqb _ _ (c .before .before .before .before .before .before .before .before .if2 .left)) (and-yes _ _ _ (le-leb _ _ (c .before .before .before .before .before .before .if3 .left)) (refl)))); fits = λ e. record { fits = test-fits (c .before .before .before .before .before .before .before .before .before .before .before .args .p .kind) (c .before .before .before .before .before .before .before .before .before .before .before .args .p .going) (c .before .before .three .ensures) (c .before .four .ensures) (sym (c .fits2 .ensures) ∙ e); count = c .before .before .before .before .before .before .if3 .left } }
 
 pub ready-spec : {M : Type 1} → statement M
 ready-spec =
     tie.close
-    (tie.spec returns returns-2 returns-3 two-requires four-requires fits-requires returns-4)
+    (tie.spec returns returns-2 returns-3 three-requires four-requires fits-requires returns-4)

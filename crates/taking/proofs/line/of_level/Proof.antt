@@ -13,7 +13,7 @@ use Rattle.taking.proofs.line.of_level.Statement.{statement}
 use Rattle.taking.proofs.line.of_level.Tie as tie
 
 module _ {xs : List ℕ} {v : ℕ} (a : AtLevel xs v) where
-  size-is : length xs ≡ 113
+  size-is : length xs ≡ 145
   size-is = ap length (a .numbers) ∙ size
 
   long : v + 1 < length xs
