@@ -1,24 +1,20 @@
 // The builder: a message from a TEID, a sequence number, a table and a buffer of values. The table is tested first, then the message
 // is made on a page of its own, and what the reading says of it decides whether it goes to the room.
-ghost use mathlib.Core.Path.{_≡_};
-ghost use mathlib.Core.List.{[], _∷_};
-ghost use mathlib.Core.Bool.{Bool};
-ghost use Prim.Native.Nat.{_≤_, _<_};
-ghost use lib.ListN.{length, take};
-ghost use Rattle·rules.specs.Listings.{book};
-ghost use Rattle·rules.specs.Octets.{numbersIn};
-ghost use Rattle·rules.specs.Verdicts.{refused, first, check};
-ghost use Rattle·rules.specs.Emitting.{acceptedWhole};
-ghost use Rattle·rules.specs.Answers.{Builds};
-ghost use Rattle·given.specs.Given.{tableIn};
-ghost use Rattle·building·specs.specs.Making.{earlyChecks, By, Makes, Made, Sends, BuildsBy};
-use rules::Sent;
-use rules::Verdict;
+ghost use Rattle.std.specs.Prelude.{◌≡◌, [], ◌∷◌, Bool, ◌≤◌, ◌<◌, length, take};
+ghost use Rattle.rules.specs.Listings.{book};
+ghost use Rattle.rules.specs.Octets.{numbers_in};
+ghost use Rattle.rules.specs.Verdicts.{refused, first, check};
+ghost use Rattle.rules.specs.Emitting.{accepted_whole};
+ghost use Rattle.rules.specs.Answers.{Builds};
+ghost use Rattle.given.specs.Given.{table_in};
+ghost use Rattle.building.specs.Making.{early_checks, By, Makes, Made, Sends, BuildsBy};
+
+use rules::{Sent, Verdict};
 
 mod making;
 
 pub(crate) fn refuse(code: u16) -> Sent
-    ensures { λ s. ⌜ s ≡ record { verdict = refused code 0; length = 0 } ⌝ }
+    ensures { result ≡ record { verdict = refused code 0; length = 0 } }
 {
     Sent {
         verdict: answers::refuse(code, 0),
@@ -35,7 +31,7 @@ pub(crate) fn early(
     octets: &[u8],
     values: &[u8],
 ) -> Verdict
-    ensures { λ v. ⌜ v ≡ first (earlyChecks kind typ sequence (tableIn (now (numbers .entry)) (now (octets .entry))) (now (values .entry))) ⌝ }
+    ensures { result ≡ first (early_checks kind typ sequence (table_in numbers.now octets.now) values.now) }
 {
     if !heading::known(kind) {
         return answers::refuse(1, 0);
@@ -62,7 +58,7 @@ pub(crate) fn build_by(
     values: &[u8],
     room: &mut [u8],
 ) -> Sent
-    ensures { λ r. ⌜ BuildsBy kind typ teid sequence (now (table .entry)) (now (values .entry)) (now (room .entry)) r (now (room .exit)) ⌝ }
+    ensures { BuildsBy kind typ teid sequence table.now values.now room.old result room.new }
 {
     let v = early(kind, typ, sequence, table, &values[..0], values);
     if v.code != 0 {
@@ -96,7 +92,7 @@ pub(crate) fn build_octets_by(
     values: &[u8],
     room: &mut [u8],
 ) -> Sent
-    ensures { λ r. ⌜ BuildsBy kind typ teid sequence (numbersIn (now (table .entry))) (now (values .entry)) (now (room .entry)) r (now (room .exit)) ⌝ }
+    ensures { BuildsBy kind typ teid sequence (numbers_in table.now) values.now room.old result room.new }
 {
     let none = [0u16; 1];
     let v = early(kind, typ, sequence, &none[..0], table, values);
@@ -118,7 +114,7 @@ pub(crate) fn build_octets_by(
 
 // The five numbers, and the length of the message, which stands at the start of the room; a refusal writes nothing. The table says its kind and type.
 pub fn build(teid: u32, sequence: u32, table: &[u16], values: &[u8], room: &mut [u8]) -> Sent
-    ensures { λ r. ⌜ Builds teid sequence (now (table .entry)) (now (values .entry)) (now (room .entry)) r (now (room .exit)) ⌝ }
+    ensures { Builds teid sequence table.now values.now room.old result room.new }
 {
     if table.len() < 6 {
         return refuse(14);
@@ -130,7 +126,7 @@ pub fn build(teid: u32, sequence: u32, table: &[u16], values: &[u8], room: &mut 
 
 // The same from a table of octets.
 pub fn build_octets(teid: u32, sequence: u32, table: &[u8], values: &[u8], room: &mut [u8]) -> Sent
-    ensures { λ r. ⌜ Builds teid sequence (numbersIn (now (table .entry))) (now (values .entry)) (now (room .entry)) r (now (room .exit)) ⌝ }
+    ensures { Builds teid sequence (numbers_in table.now) values.now room.old result room.new }
 {
     if table.len() < 12 {
         return refuse(14);

@@ -1,22 +1,19 @@
 // The message that is made: on a page first, and in the room once it is known to be accepted with every row kept.
-ghost use mathlib.Core.Path.{_≡_};
-ghost use mathlib.Core.Bool.{Bool};
-ghost use mathlib.Core.List.{[], _∷_};
-ghost use Prim.Native.Nat.{_+_, _≤_, _<_};
-ghost use lib.ListN.{length, take};
-ghost use Rattle·rules.specs.Listings.{book};
-ghost use Rattle·rules.specs.Table.{laid};
-ghost use Rattle·rules.specs.Verdicts.{refused, check};
-ghost use Rattle·rules.specs.Emitting.{acceptedWhole};
-ghost use Rattle·rules.specs.Built.{teidOctets, sequenceOctets};
-ghost use Rattle·emitting.specs.Emits.{over};
-ghost use Rattle·building·specs.specs.Making.{startOf, Starts, By, Makes, Made, Sends, sixteen};
+ghost use Rattle.std.specs.Prelude.{◌≡◌, Bool, [], ◌∷◌, ◌+◌, ◌≤◌, ◌<◌, length, take};
+ghost use Rattle.rules.specs.Listings.{book};
+ghost use Rattle.rules.specs.Table.{laid};
+ghost use Rattle.rules.specs.Verdicts.{refused, check};
+ghost use Rattle.rules.specs.Emitting.{accepted_whole};
+ghost use Rattle.rules.specs.Built.{teid_octets, sequence_octets};
+ghost use Rattle.emitting.specs.Emits.{over};
+ghost use Rattle.building.specs.Making.{start_of, Starts, By, Makes, Made, Sends, sixteen};
+
 use rules::Sent;
 
 // Four octets from `at` on.
 pub(crate) fn put_four(out: &mut [u8], at: usize, a: u8, b: u8, c: u8, d: u8)
-    requires { ⌜ at + 4 ≤ length (now out) ⌝ }
-    ensures { λ _. ⌜ now (out .exit) ≡ over (now (out .entry)) at (a ∷ b ∷ c ∷ d ∷ []) ⌝ }
+    requires { at + 4 ≤ length out.old }
+    ensures { out.new ≡ over out.old at (a ∷ b ∷ c ∷ d ∷ []) }
 {
     out[at] = a;
     out[at + 1] = b;
@@ -25,8 +22,8 @@ pub(crate) fn put_four(out: &mut [u8], at: usize, a: u8, b: u8, c: u8, d: u8)
 }
 
 pub(crate) fn put_teid(out: &mut [u8], at: usize, teid: u32)
-    requires { ⌜ at + 4 ≤ length (now out) ⌝ }
-    ensures { λ _. ⌜ now (out .exit) ≡ over (now (out .entry)) at (teidOctets teid) ⌝ }
+    requires { at + 4 ≤ length out.old }
+    ensures { out.new ≡ over out.old at (teid_octets teid) }
 {
     put_four(
         out,
@@ -39,8 +36,8 @@ pub(crate) fn put_teid(out: &mut [u8], at: usize, teid: u32)
 }
 
 pub(crate) fn put_sequence(out: &mut [u8], at: usize, sequence: u32)
-    requires { ⌜ (at + 4 ≤ length (now out)) × (sequence ≤ 16777215) ⌝ }
-    ensures { λ _. ⌜ now (out .exit) ≡ over (now (out .entry)) at (sequenceOctets sequence) ⌝ }
+    requires { (at + 4 ≤ length out.old) × (sequence ≤ 16777215) }
+    ensures { out.new ≡ over out.old at (sequence_octets sequence) }
 {
     put_four(
         out,
@@ -54,8 +51,8 @@ pub(crate) fn put_sequence(out: &mut [u8], at: usize, sequence: u32)
 
 // The header, of 8 octets or of 12 with a TEID, of a message of `n` octets.
 pub(crate) fn put_start(at: usize, typ: u32, teid: u32, sequence: u32, n: usize, out: &mut [u8])
-    requires { ⌜ Starts at typ sequence n (now out) ⌝ }
-    ensures { λ _. ⌜ now (out .exit) ≡ over (now (out .entry)) 0 (startOf at typ teid sequence n) ⌝ }
+    requires { Starts at typ sequence n out.old }
+    ensures { out.new ≡ over out.old 0 (start_of at typ teid sequence n) }
 {
     let len = n - 4;
     if at == 12 {
@@ -70,7 +67,7 @@ pub(crate) fn put_start(at: usize, typ: u32, teid: u32, sequence: u32, n: usize,
 
 // Is it accepted, with every row kept? The counts say so, whatever room there is for rows.
 pub(crate) fn whole(kind: u32, message: &[u8]) -> bool
-    ensures { λ r. ⌜ r ≡ acceptedWhole book kind (now (message .entry)) ⌝ }
+    ensures { result ≡ accepted_whole book kind message.now }
 {
     let mut none = [0u16; 1];
     let r = reading::read(kind, message, &mut none);
@@ -83,8 +80,8 @@ pub(crate) fn whole(kind: u32, message: &[u8]) -> bool
 
 // The message of `n` octets at the start of a draft goes to the room, if it is right.
 pub(crate) fn send(kind: u32, draft: &[u8], n: usize, room: &mut [u8]) -> Sent
-    requires { ⌜ Sends n (now draft) (now room) ⌝ }
-    ensures { λ s. ⌜ By (sixteen kind (take n (now (draft .entry)))) n (take n (now (draft .entry))) (now (room .entry)) s (now (room .exit)) ⌝ }
+    requires { Sends n draft.now room.old }
+    ensures { By (sixteen kind (take n draft.now)) n (take n draft.now) room.old result room.new }
 {
     if !whole(kind, &draft[..n]) {
         return Sent {
@@ -111,8 +108,8 @@ pub(crate) fn make(
     values: &[u8],
     room: &mut [u8],
 ) -> Sent
-    requires { ⌜ Makes typ sequence at (now rows) count (now values) ⌝ }
-    ensures { λ s. ⌜ Made kind typ teid sequence at (now (rows .entry)) count (now (values .entry)) (now (room .entry)) s (now (room .exit)) ⌝ }
+    requires { Makes typ sequence at rows.now count values.now }
+    ensures { Made kind typ teid sequence at rows.now count values.now room.old result room.new }
 {
     let types = facts::table();
     let n = at + emitting::sizes(&types, rows, count);

@@ -1,24 +1,19 @@
 // The one call: the verdict on a message, its table and its masked copy, all from one reading of one string of octets.
-ghost use mathlib.Core.Path.{_≡_};
-ghost use mathlib.Core.Bool.{cond};
-ghost use Prim.Native.Nat.{_*_, _≤_};
-ghost use lib.Dec.{ltb};
-ghost use lib.ListN.{length};
-ghost use Rattle·rules.specs.Sizes.{largestMessage, rowNumbers, used};
-ghost use Rattle·rules.specs.Table.{laid};
-ghost use Rattle·rules.specs.Verdicts.{refused, check};
-ghost use Rattle·rules.specs.Answers.{Decided, Called};
-ghost use Rattle·masking.specs.Clearing.{clearedRows, Masks};
-ghost use Rattle·calling·specs.specs.Calling.{lentOn, turned, Settles, Settled};
-use rules::Decision;
-use rules::Reading;
-use rules::Verdict;
+ghost use Rattle.std.specs.Prelude.{◌≡◌, cond, ◌*◌, ◌≤◌, ltb, length};
+ghost use Rattle.rules.specs.Sizes.{largest_message, row_numbers, used};
+ghost use Rattle.rules.specs.Table.{laid};
+ghost use Rattle.rules.specs.Verdicts.{refused, check};
+ghost use Rattle.rules.specs.Answers.{Decided, Called};
+ghost use Rattle.masking.specs.Clearing.{cleared_rows, Masks};
+ghost use Rattle.calling.specs.Calling.{lent_on, turned, Settles, Settled};
+
+use rules::{Decision, Reading, Verdict};
 
 pub mod stored;
 
 // 13: a copy buffer of `octets` is too short for a message of `size`.
 fn short_copy(size: usize, octets: usize) -> Verdict
-    ensures { λ v. ⌜ v ≡ check (ltb octets size) (refused 13 0) ⌝ }
+    ensures { result ≡ check (ltb octets size) (refused 13 0) }
 {
     if octets < size {
         return answers::refuse(13, 0);
@@ -28,8 +23,8 @@ fn short_copy(size: usize, octets: usize) -> Verdict
 
 // 10: a table of `room` numbers is too short for `rows` rows.
 fn short_table(rows: usize, room: usize) -> Verdict
-    requires { ⌜ rows ≤ largestMessage ⌝ }
-    ensures { λ v. ⌜ v ≡ check (ltb room (used rows)) (refused 10 0) ⌝ }
+    requires { rows ≤ largest_message }
+    ensures { result ≡ check (ltb room (used rows)) (refused 10 0) }
 {
     if room < 6 + 6 * rows {
         return answers::refuse(10, 0);
@@ -39,8 +34,8 @@ fn short_table(rows: usize, room: usize) -> Verdict
 
 // What leaves all as it was lent: 1 to 9, then 13, then 10.
 fn lent_verdict(r: Reading, size: usize, octets: usize, room: usize) -> Verdict
-    requires { ⌜ r .rows ≤ largestMessage ⌝ }
-    ensures { λ v. ⌜ v ≡ lentOn r size octets room ⌝ }
+    requires { r.rows ≤ largest_message }
+    ensures { result ≡ lent_on r size octets room }
 {
     let refusal = r.refusal;
     let copy = short_copy(size, octets);
@@ -51,8 +46,8 @@ fn lent_verdict(r: Reading, size: usize, octets: usize, room: usize) -> Verdict
 
 // The masked copy, by a scratch that holds all rows; by any other nothing is written.
 fn copy_out(rows: &[u16], count: usize, message: &[u8], copy: &mut [u8])
-    requires { ⌜ (count ≤ largestMessage) × (rowNumbers * count ≤ length (now rows) → Masks (now rows) (now message) count (length (now copy))) ⌝ }
-    ensures { λ _. ⌜ now (copy .exit) ≡ cond (ltb (length (now (rows .entry))) (rowNumbers * count)) (now (copy .entry)) (clearedRows (now (rows .entry)) (now (message .entry)) count (laid (now (message .entry)) (now (copy .entry)))) ⌝ }
+    requires { (count ≤ largest_message) × (row_numbers * count ≤ length rows.now → Masks rows.now message.now count (length copy.old)) }
+    ensures { copy.new ≡ cond (ltb (length rows.now) (row_numbers * count)) copy.old (cleared_rows rows.now message.now count (laid message.now copy.old)) }
 {
     if rows.len() < 6 * count {
         return;
@@ -62,7 +57,7 @@ fn copy_out(rows: &[u16], count: usize, message: &[u8], copy: &mut [u8])
 
 // A refusal, with the counts of its reading.
 fn turn(v: Verdict, r: Reading) -> Decision
-    ensures { λ d. ⌜ d ≡ turned v r ⌝ }
+    ensures { result ≡ turned v r }
 {
     Decision {
         verdict: v,
@@ -76,7 +71,7 @@ fn turn(v: Verdict, r: Reading) -> Decision
 // The call for a table of `room` numbers, but for that table: its rows go to `rows`, as many as there is room for, and the copy is written only if all
 // have room there.
 pub fn decide(kind: u32, message: &[u8], rows: &mut [u16], room: usize, copy: &mut [u8]) -> Decision
-    ensures { λ r. ⌜ Decided kind (now (message .entry)) (now (rows .entry)) room (now (copy .entry)) r (now (rows .exit)) (now (copy .exit)) ⌝ }
+    ensures { Decided kind message.now rows.old room copy.old result rows.new copy.new }
 {
     let r = reading::read(kind, message, rows);
     let lent = lent_verdict(r, message.len(), copy.len(), room);
@@ -99,8 +94,8 @@ pub fn decide(kind: u32, message: &[u8], rows: &mut [u16], room: usize, copy: &m
 
 // On acceptance, the table from a scratch that holds its rows.
 fn settle(d: Decision, rows: &[u16], table: &mut [u16]) -> Verdict
-    requires { ⌜ Settles d (now rows) (now table) ⌝ }
-    ensures { λ r. ⌜ Settled d (now (rows .entry)) (now (table .entry)) r (now (table .exit)) ⌝ }
+    requires { Settles d rows.now table.old }
+    ensures { Settled d rows.now table.old result table.new }
 {
     let v = d.verdict;
     if v.code != 0 {
@@ -112,7 +107,7 @@ fn settle(d: Decision, rows: &[u16], table: &mut [u16]) -> Verdict
 
 // The verdict on a message. The table is written on acceptance alone, and the copy where 11 or 12 refuse, too.
 pub fn judge_copy(kind: u32, message: &[u8], table: &mut [u16], copy: &mut [u8]) -> Verdict
-    ensures { λ r. ⌜ Called kind (now (message .entry)) (now (table .entry)) (now (copy .entry)) r (now (table .exit)) (now (copy .exit)) ⌝ }
+    ensures { Called kind message.now table.old copy.old result table.new copy.new }
 {
     let mut all = scratch::large();
     let room = table.len();

@@ -1,18 +1,16 @@
 // The one call for C: a table lent as octets, and a message that a ring may refill at any time. It is copied once, and verdict, table and copy are all of
 // that.
-ghost use mathlib.Core.Path.{_≡_};
-ghost use Prim.Native.Nat.{_≤_};
-ghost use lib.ListN.{length};
-ghost use Rattle·rules.specs.Sizes.{largestMessage};
-ghost use Rattle·rules.specs.Answers.{CalledStored};
-ghost use Rattle·calling·specs.specs.Calling.{Stored};
+ghost use Rattle.std.specs.Prelude.{◌≡◌, ◌≤◌, length};
+ghost use Rattle.rules.specs.Sizes.{largest_message};
+ghost use Rattle.rules.specs.Answers.{CalledStored};
+ghost use Rattle.calling.specs.Calling.{Stored};
+
 use crate::decide;
-use rules::Decision;
-use rules::Verdict;
+use rules::{Decision, Verdict};
 
 // On acceptance, the table from a scratch that holds its rows.
 fn store(d: Decision, rows: &[u16], table: &mut [u8]) -> Verdict
-    ensures { λ r. ⌜ Stored d (now (rows .entry)) (now (table .entry)) r (now (table .exit)) ⌝ }
+    ensures { Stored d rows.now table.old result table.new }
 {
     let v = d.verdict;
     if v.code != 0 {
@@ -24,7 +22,7 @@ fn store(d: Decision, rows: &[u16], table: &mut [u8]) -> Verdict
 
 // With room for the rows of any message.
 fn by_all(kind: u32, message: &[u8], table: &mut [u8], copy: &mut [u8]) -> Verdict
-    ensures { λ r. ⌜ CalledStored kind (now (message .entry)) (now (table .entry)) (now (copy .entry)) r (now (table .exit)) (now (copy .exit)) ⌝ }
+    ensures { CalledStored kind message.now table.old copy.old result table.new copy.new }
 {
     let mut all = scratch::large();
     let numbers = table.len() / 2;
@@ -34,7 +32,7 @@ fn by_all(kind: u32, message: &[u8], table: &mut [u8], copy: &mut [u8]) -> Verdi
 
 // With room for few rows first: rows are counted also where the scratch is full, so that the count says whether it holds them all.
 fn by_few(kind: u32, message: &[u8], table: &mut [u8], copy: &mut [u8]) -> Verdict
-    ensures { λ r. ⌜ CalledStored kind (now (message .entry)) (now (table .entry)) (now (copy .entry)) r (now (table .exit)) (now (copy .exit)) ⌝ }
+    ensures { CalledStored kind message.now table.old copy.old result table.new copy.new }
 {
     if scratch::crowded(message) {
         return by_all(kind, message, table, copy);
@@ -50,8 +48,8 @@ fn by_few(kind: u32, message: &[u8], table: &mut [u8], copy: &mut [u8]) -> Verdi
 
 // A message of few octets, copied first.
 fn of_slip(kind: u32, message: &[u8], table: &mut [u8], copy: &mut [u8]) -> Verdict
-    requires { ⌜ length (now message) ≤ 264 ⌝ }
-    ensures { λ r. ⌜ CalledStored kind (now (message .entry)) (now (table .entry)) (now (copy .entry)) r (now (table .exit)) (now (copy .exit)) ⌝ }
+    requires { length message.now ≤ 264 }
+    ensures { CalledStored kind message.now table.old copy.old result table.new copy.new }
 {
     let mut slip = scratch::slip();
     let n = message.len();
@@ -61,8 +59,8 @@ fn of_slip(kind: u32, message: &[u8], table: &mut [u8], copy: &mut [u8]) -> Verd
 
 // A message of any length that is not refused for it, copied first.
 fn of_page(kind: u32, message: &[u8], table: &mut [u8], copy: &mut [u8]) -> Verdict
-    requires { ⌜ length (now message) ≤ largestMessage ⌝ }
-    ensures { λ r. ⌜ CalledStored kind (now (message .entry)) (now (table .entry)) (now (copy .entry)) r (now (table .exit)) (now (copy .exit)) ⌝ }
+    requires { length message.now ≤ largest_message }
+    ensures { CalledStored kind message.now table.old copy.old result table.new copy.new }
 {
     let mut page = scratch::page();
     let n = message.len();
@@ -73,7 +71,7 @@ fn of_page(kind: u32, message: &[u8], table: &mut [u8], copy: &mut [u8]) -> Verd
 // The verdict on a message. The table is written on acceptance alone, and the copy where 11 or 12 refuse, too. One that is too long is refused with no octet
 // of it read.
 pub fn judge_copy(kind: u32, message: &[u8], table: &mut [u8], copy: &mut [u8]) -> Verdict
-    ensures { λ r. ⌜ CalledStored kind (now (message .entry)) (now (table .entry)) (now (copy .entry)) r (now (table .exit)) (now (copy .exit)) ⌝ }
+    ensures { CalledStored kind message.now table.old copy.old result table.new copy.new }
 {
     if message.len() <= 264 {
         return of_slip(kind, message, table, copy);

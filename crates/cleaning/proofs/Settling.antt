@@ -1,27 +1,27 @@
 -- What is settled: a refusal by the reading, 13, or the copy. Assumes nothing.
-use mathlib.Core.Path.{_≡_, refl, sym, ap, _∙_}
+use mathlib.Core.Path.{◌≡◌, refl, sym, ap, ◌∙◌}
 use mathlib.Core.Bool.{Bool, true, false, cond}
-use mathlib.Core.List.{List, [], _∷_}
-use Prim.Native.Nat.{ℕ, zero, suc, _+_, _≤_, _<_}
+use mathlib.Core.List.{List, [], ◌∷◌}
+use Prim.Native.Nat.{ℕ, zero, suc, ◌+◌, ◌≤◌, ◌<◌}
 use native.Mathlib.Omega.{arith}
-use native.Mathlib.Nat.{pos-of-ne-zero}
+use native.Mathlib.Nat.{pos_of_ne-zero}
 use borrow.Author.Tests.{lt-ltb, le-ltb, ltb-false}
 use lib.Dec.{ltb}
 use lib.ListN.{length}
-use Rattle·rules.specs.Framing.{headerLength}
-use Rattle·rules.specs.Verdicts.{accepted, refused, check, refuses, first}
-use Rattle·rules.specs.declared.Verdict.{Verdict}
-use Rattle·rules.specs.declared.Reading.{Reading}
-use Rattle·rules.specs.declared.Sent.{Sent}
-use Rattle·rules.proofs.Checks.{AllPass, all-pass}
-use Rattle·emitting.specs.Emits.{putRows}
-use Rattle·cleaning·specs.specs.Cleaning.{size, frontOf, copyOf, roomCheck, By, Copied, Settled}
+use Rattle.rules.specs.Framing.{header_length}
+use Rattle.rules.specs.Verdicts.{accepted, refused, check, refuses, first}
+use Rattle.rules.specs.declared.Verdict.{Verdict}
+use Rattle.rules.specs.declared.Reading.{Reading}
+use Rattle.rules.specs.declared.Sent.{Sent}
+use Rattle.rules.proofs.Checks.{AllPass, all_pass}
+use Rattle.emitting.specs.Emits.{put_rows}
+use Rattle.cleaning.specs.Cleaning.{size, front_octets, copy_of, room_check, By, Copied, Settled}
 
-on : (v : Verdict) → (v .code ≡ 0 → ⊥) → refuses v ≡ true
-on v z = lt-ltb 0 (v .code) (pos-of-ne-zero z)
+on : (v : Verdict) → (v.code ≡ 0 → ⊥) → refuses v ≡ true
+on v z = lt-ltb 0 v.code (pos_of_ne-zero z)
 
-off : (v : Verdict) → v .code ≡ 0 → refuses v ≡ false
-off v z = le-ltb 0 (v .code) (omega arith)
+off : (v : Verdict) → v.code ≡ 0 → refuses v ≡ false
+off v z = le-ltb 0 v.code (omega arith)
 
 -- ---- the copy
 
@@ -30,18 +30,18 @@ module _ (count : ℕ) (rows m out : List ℕ) (n : ℕ) (s : n ≡ size count r
   unfolding check
   by-room l v e =
       let t : ltb (length out) (size count rows m) ≡ true = lt-ltb (length out) (size count rows m) (omega (arith, s)) in
-      record { verdict-is = rw t e; length-is = rw t; out-left = rw t }
+      record { verdict_is = rw t e; length_is = rw t; out_left = rw t }
 
-  pub by-rows : n ≤ length out → (v : Verdict) → v ≡ accepted → (out′ : List ℕ) → out′ ≡ copyOf count rows m out
-      → Copied count rows m out (record { verdict = v; length = n }) out′
+  pub by_rows : n ≤ length out → (v : Verdict) → v ≡ accepted → (out' : List ℕ) → out' ≡ copy_of count rows m out
+      → Copied count rows m out (record { verdict = v; length = n }) out'
   unfolding check
-  by-rows l v e out′ q =
+  by_rows l v e out' q =
       let t : ltb (length out) (size count rows m) ≡ false = le-ltb (length out) (size count rows m) (omega (arith, s)) in
-      record { verdict-is = rw t e; length-is = rw t s; out-left = rw t q }
+      record { verdict_is = rw t e; length_is = rw t s; out_left = rw t q }
 
 -- the header with the size of the copy, then the rows
-pub copied : (count : ℕ) (rows m out : List ℕ) {front : List ℕ} {at n : ℕ} → at ≡ headerLength m → n ≡ size count rows m → front ≡ frontOf m at n out
-    → putRows rows count m true front at ≡ copyOf count rows m out
+pub copied : (count : ℕ) (rows m out : List ℕ) {front : List ℕ} {at n : ℕ} → at ≡ header_length m → n ≡ size count rows m → front ≡ front_octets m at n out
+    → put_rows rows count m true front at ≡ copy_of count rows m out
 copied count rows m out e f h = rw (h, e, f)
 
 -- ---- by a reading
@@ -65,25 +65,25 @@ unfolding first check
 last true v = refl
 last false v = refl
 
-module _ (r : Reading) (rows m out : List ℕ) (v : Verdict) (e : v ≡ first (r .refusal ∷ first (r .short ∷ r .lack ∷ []) ∷ [])) where
+module _ (r : Reading) (rows m out : List ℕ) (v : Verdict) (e : v ≡ first (r.refusal ∷ first (r.short ∷ r.lack ∷ []) ∷ [])) where
   abbrev late : Verdict
-  late = roomCheck (r .rows) rows m out
+  late = room_check r.rows rows m out
 
-  verdict-by : first (r .refusal ∷ r .short ∷ r .lack ∷ late ∷ []) ≡ cond (refuses v) v late
-  verdict-by = rw e (firsts (r .refusal) (r .short) (r .lack) late ∙ rw (last (ltb (length out) (size (r .rows) rows m)) v))
+  verdict-by : first (r.refusal ∷ r.short ∷ r.lack ∷ late ∷ []) ≡ cond (refuses v) v late
+  verdict-by = rw e (firsts r.refusal r.short r.lack late ∙ rw (last (ltb (length out) (size r.rows rows m)) v))
 
-  pub by-refusal : (v .code ≡ 0 → ⊥) → Settled r rows m out (record { verdict = v; length = 0 }) out
-  by-refusal z = rw (verdict-by, on v z) (record { verdict-is = refl; length-is = rw (on v z); out-left = rw (on v z) })
+  pub by-refusal : (v.code ≡ 0 → ⊥) → Settled r rows m out (record { verdict = v; length = 0 }) out
+  by-refusal z = rw (verdict-by, on v z) (record { verdict_is = refl; length_is = rw (on v z); out_left = rw (on v z) })
 
-  pub by-copy : v .code ≡ 0 → {s : Sent} {out′ : List ℕ} → Copied (r .rows) rows m out s out′ → Settled r rows m out s out′
-  by-copy z c = rw (verdict-by, off v z) c
+  pub by_copy : v.code ≡ 0 → {s : Sent} {out' : List ℕ} → Copied r.rows rows m out s out' → Settled r rows m out s out'
+  by_copy z c = rw (verdict-by, off v z) c
 
   -- it was not refused by 1 to 9
-  pub passes : v .code ≡ 0 → r .refusal .code ≡ 0
+  pub passes : v.code ≡ 0 → r.refusal.code ≡ 0
   unfolding AllPass
   passes z =
-      let a = all-pass (r .refusal ∷ first (r .short ∷ r .lack ∷ []) ∷ []) .0 (rw (← e) (off v z)) in
-      none (r .refusal .code) (a .0)
+      let a = (all_pass (r.refusal ∷ first (r.short ∷ r.lack ∷ []) ∷ [])).0 (rw (← e) (off v z)) in
+      none r.refusal.code a.0
     where
       none : (n : ℕ) → ltb 0 n ≡ false → n ≡ 0
       none zero f = refl

@@ -1,20 +1,19 @@
 // The table in lines, one a row, with the values that the viewer may see and the row marked that a refusal names.
-ghost use mathlib.Core.Path.{_≡_};
-ghost use lib.ListN.{length};
-ghost use Rattle·rules.specs.Values.{cell};
-ghost use Rattle·lookup.specs.Lent.{Number, HasRow, Asked};
-ghost use Rattle·wording.specs.Puts.{Puts};
-ghost use Rattle·columns·specs.specs.Rows.{rowRun, marked, rowLine, rowLines, Counted};
-use phrases::MARKS;
-use phrases::ROWS;
-use phrases::runs::narrow;
-use phrases::runs::number_at;
+ghost use Rattle.std.specs.Prelude.{◌≡◌, length};
+ghost use Rattle.rules.specs.Values.{cell};
+ghost use Rattle.lookup.specs.Lent.{Number, HasRow, Asked};
+ghost use Rattle.wording.specs.Puts.{Puts};
+ghost use Rattle.columns.specs.Rows.{row_run, marked, row_line, row_lines, Counted};
+
+use phrases::runs::{narrow, number_at};
 use phrases::sentences::say;
+use phrases::{MARKS, ROWS};
 use rules::Verdict;
 
 pub mod values;
 
 // Who looks at a message, and how: on which kind, with the right to see subscribers or without it, with values whole or cut.
+#[derive(Drop)]
 pub struct View {
     pub kind: u32,
     pub right: bool,
@@ -23,16 +22,16 @@ pub struct View {
 
 // Number `j` of a row.
 fn cell(table: &[u16], row: usize, j: usize) -> u16
-    requires { ⌜ Asked (now table) row j ⌝ }
-    ensures { λ r. ⌜ r ≡ cell (now (table .entry)) row j ⌝ }
+    requires { Asked table.now row j }
+    ensures { result ≡ cell table.now row j }
 {
     number_at(table, 6 + 6 * row + j)
 }
 
 // The numbers that are said of a row, which is shown as one more.
 fn row_run(table: &[u16], row: usize) -> [u16; 7]
-    requires { ⌜ HasRow (now table) row ⌝ }
-    ensures { λ r. ⌜ r ≡ rowRun (now (table .entry)) row ⌝ }
+    requires { HasRow table.now row }
+    ensures { result ≡ row_run table.now row }
 {
     [
         narrow(row + 1),
@@ -46,14 +45,14 @@ fn row_run(table: &[u16], row: usize) -> [u16; 7]
 }
 
 fn wide(x: u16) -> usize
-    ensures { λ r. ⌜ Number x r ⌝ }
+    ensures { Number x result }
 {
     x as usize
 }
 
 // The verdict's code where it names the element whose value is at `place`, else 0.
 fn marked(v: Verdict, place: u16) -> u16
-    ensures { λ r. ⌜ r ≡ marked v place ⌝ }
+    ensures { result ≡ marked v place }
 {
     if wide(place) == wide(v.place) + 4 {
         return v.code;
@@ -74,8 +73,8 @@ fn line<'a>(
     at: usize,
     out: &mut [u8],
 ) -> usize
-    requires { ⌜ Counted (view .kind) (now message) (now table) count row ⌝ }
-    ensures { λ r. ⌜ Puts (rowLine (now (names .entry)) view v (now (table .entry)) (now (message .entry)) (now (copy .entry)) row) at (now (out .entry)) r (now (out .exit)) ⌝ }
+    requires { Counted view.kind message.now table.now count row }
+    ensures { Puts (row_line names.now view v table.now message.now copy.now row) at out.old result out.new }
 {
     let run = row_run(table, row);
     let parent = run[1];
@@ -100,7 +99,7 @@ pub fn lines<'a>(
     at: usize,
     out: &mut [u8],
 ) -> usize
-    ensures { λ r. ⌜ Puts (rowLines (now (names .entry)) view v (now (table .entry)) (now (message .entry)) (now (copy .entry))) at (now (out .entry)) r (now (out .exit)) ⌝ }
+    ensures { Puts (row_lines names.now view v table.now message.now copy.now) at out.old result out.new }
 {
     let count = lookup::rows(view.kind, message, table);
     let mut to = at;

@@ -1,23 +1,19 @@
 // What a viewer sees of a value: its octets, or as many as the rules leave open and that the rest is covered.
-ghost use mathlib.Core.Path.{_≡_};
-ghost use mathlib.Core.List.{_++_};
-ghost use Prim.Native.Nat.{_≤_};
-ghost use lib.ListN.{length, take};
-ghost use Rattle·wording.specs.Puts.{Puts};
-ghost use Rattle·wording.specs.Pieces.{hexes};
-ghost use Rattle·phrases.specs.Table.{covers, endings, voids};
-ghost use Rattle·phrases.specs.Sentences.{said, narrow};
-ghost use Rattle·columns·specs.specs.Values.{typeOctet, entered, seenOctets, octetsText, valueText, ending};
+ghost use Rattle.std.specs.Prelude.{◌≡◌, ◌++◌, ◌≤◌, length, take};
+ghost use Rattle.wording.specs.Puts.{Puts};
+ghost use Rattle.wording.specs.Pieces.{hexes};
+ghost use Rattle.phrases.specs.Table.{covers, endings, voids};
+ghost use Rattle.phrases.specs.Sentences.{said, narrow};
+ghost use Rattle.columns.specs.Values.{type_octet, entered, seen_octets, octets_text, value_text, ending};
+
 use crate::View;
-use phrases::COVERS;
-use phrases::ENDINGS;
-use phrases::VOIDS;
 use phrases::runs::narrow;
 use phrases::sentences::say;
+use phrases::{COVERS, ENDINGS, VOIDS};
 
 // A type from 256 on is like 0, which is no group and not covered.
 fn type_octet(typ: u16) -> u8
-    ensures { λ r. ⌜ r ≡ typeOctet typ ⌝ }
+    ensures { result ≡ type_octet typ }
 {
     if typ < 256 {
         return typ as u8;
@@ -27,7 +23,7 @@ fn type_octet(typ: u16) -> u8
 
 // A kept group has no value of its own to show, since its inner rows have it.
 pub fn entered(typ: u16, stand: u16) -> bool
-    ensures { λ r. ⌜ r ≡ entered typ stand ⌝ }
+    ensures { result ≡ entered typ stand }
 {
     if stand != 0 {
         return false;
@@ -38,7 +34,7 @@ pub fn entered(typ: u16, stand: u16) -> bool
 
 // How many leading octets of a value are seen: those that the masked copy shows, or all.
 fn seen_octets(right: bool, typ: u16, stand: u16, len: usize) -> usize
-    ensures { λ r. ⌜ r ≡ seenOctets right typ stand len ⌝ }
+    ensures { result ≡ seen_octets right typ stand len }
 {
     if right {
         return len;
@@ -49,7 +45,7 @@ fn seen_octets(right: bool, typ: u16, stand: u16, len: usize) -> usize
 
 // The octets in hex, 32 at most, so that a row stays one line, or all.
 fn octets(full: bool, part: &[u8], at: usize, out: &mut [u8]) -> usize
-    ensures { λ r. ⌜ Puts (octetsText full (now (part .entry))) at (now (out .entry)) r (now (out .exit)) ⌝ }
+    ensures { Puts (octets_text full part.now) at out.old result out.new }
 {
     if full {
         return wording::hexes(part, at, out);
@@ -63,8 +59,8 @@ fn octets(full: bool, part: &[u8], at: usize, out: &mut [u8]) -> usize
 
 // The octets that are seen, and that the rest is covered.
 fn covered(names: &[u8], run: &[u16], n: usize, part: &[u8], at: usize, out: &mut [u8]) -> usize
-    requires { ⌜ n ≤ length (now part) ⌝ }
-    ensures { λ r. ⌜ Puts (hexes (take n (now (part .entry))) ++ said (now (names .entry)) (now (run .entry)) covers (narrow n)) at (now (out .entry)) r (now (out .exit)) ⌝ }
+    requires { n ≤ length part.now }
+    ensures { Puts (hexes (take n part.now) ++ said names.now run.now covers (narrow n)) at out.old result out.new }
 {
     let after = wording::hexes(&part[..n], at, out);
     say(COVERS, narrow(n), names, run, after, out)
@@ -79,8 +75,8 @@ fn value(
     at: usize,
     out: &mut [u8],
 ) -> usize
-    requires { ⌜ n ≤ length (now part) ⌝ }
-    ensures { λ r. ⌜ Puts (valueText (now (names .entry)) (now (run .entry)) full n (now (part .entry))) at (now (out .entry)) r (now (out .exit)) ⌝ }
+    requires { n ≤ length part.now }
+    ensures { Puts (value_text names.now run.now full n part.now) at out.old result out.new }
 {
     if n == part.len() {
         return octets(full, part, at, out);
@@ -90,7 +86,7 @@ fn value(
 
 // A void group's standing in its column, and why it is set aside.
 fn set_aside(names: &[u8], run: &[u16], stand: u16, at: usize, out: &mut [u8]) -> usize
-    ensures { λ r. ⌜ Puts (said (now (names .entry)) (now (run .entry)) endings 1 ++ said (now (names .entry)) (now (run .entry)) voids stand) at (now (out .entry)) r (now (out .exit)) ⌝ }
+    ensures { Puts (said names.now run.now endings 1 ++ said names.now run.now voids stand) at out.old result out.new }
 {
     let after = say(ENDINGS, 1, names, run, at, out);
     say(VOIDS, stand, names, run, after, out)
@@ -107,7 +103,7 @@ pub(crate) fn ending(
     at: usize,
     out: &mut [u8],
 ) -> usize
-    ensures { λ r. ⌜ Puts (ending (now (names .entry)) (now (run .entry)) view typ stand (now (part .entry))) at (now (out .entry)) r (now (out .exit)) ⌝ }
+    ensures { Puts (ending names.now run.now view typ stand part.now) at out.old result out.new }
 {
     if stand == 4 {
         return set_aside(names, run, stand, at, out);

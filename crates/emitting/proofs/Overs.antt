@@ -1,37 +1,37 @@
 -- Octets laid over a part of a buffer: a row after a row. Assumes nothing.
-use mathlib.Core.Path.{_≡_, refl, sym, ap, _∙_}
+use mathlib.Core.Path.{◌≡◌, refl, sym, ap, ◌∙◌}
 use mathlib.Core.Bool.{Bool, true, false, cond}
-use mathlib.Core.List.{List, [], _∷_, _++_, append-assoc, append-nil}
-use Prim.Native.Nat.{ℕ, zero, suc, _+_, _-_, _*_, _/_, _%_, _≤_, _<_}
+use mathlib.Core.List.{List, [], ◌∷◌, ◌++◌, append_assoc, append-nil}
+use Prim.Native.Nat.{ℕ, zero, suc, ◌+◌, ◌-◌, ◌*◌, ◌/◌, ◌%◌, ◌≤◌, ◌<◌}
 use native.Mathlib.Omega.{arith}
 use native.Mathlib.Nat.{add-zero}
-use borrow.Author.Tests.{eq-eqb, ne-eqb}
+use borrow.Author.Tests.{eq-eqb, ne_eqb}
 use lib.Dec.{eqb}
-use lib.ListN.{length, getD, take, drop, length-append, length-take, length-drop, take-append-drop}
-use lib.Seq.{length-take-le, take-append-add, drop-append-add, take-at, drop-at, drop-drop}
-use Rattle·rules.specs.Types.{isGroup}
-use Rattle·rules.specs.Emitting.{headOctets}
-use Rattle·emitting·specs.specs.Emits.{number, lengthIn, insideIn, lastIn, headed, valued, valueIn, partIn, partsIn, over, HasRows, RowFit, PutsRow, PutRow, PutsRows, Heading, Valued}
+use lib.ListN.{length, get_or, take, drop, length-append, length-take, length-drop, take-append-drop}
+use lib.Seq.{length-take-le, take-append-add, drop-append-add, take_at, drop_at, drop-drop}
+use Rattle.rules.specs.Types.{is_group}
+use Rattle.rules.specs.Emitting.{head_octets}
+use Rattle.emitting.specs.Emits.{number, length_in, inside_in, last_in, headed, valued, value_in, part_within, parts_in, over, HasRows, RowFit, PutsRow, PutRow, PutsRows, Heading, Valued}
 
-pub over-none : (out : List ℕ) (at : ℕ) → out ≡ over out at []
-over-none out at = let e : at + 0 ≡ at = add-zero at in rw e (sym (take-append-drop at out))
+pub over_none : (out : List ℕ) (at : ℕ) → out ≡ over out at []
+over_none out at = let e : at + 0 ≡ at = add-zero at in rw e (sym (take-append-drop at out))
 
 pub over-length : (out : List ℕ) (at : ℕ) (xs : List ℕ) → at + length xs ≤ length out → length (over out at xs) ≡ length out
 over-length out at xs l =
     omega (arith, length-append (take at out) (xs ++ drop (at + length xs) out), length-append xs (drop (at + length xs) out), length-take-le at out (omega arith), length-drop (at + length xs) out)
 
 -- what stands before the end of what was laid, and after it
-front-of : (out : List ℕ) (at : ℕ) (xs : List ℕ) → at + length xs ≤ length out → take (at + length xs) (over out at xs) ≡ take at out ++ xs
-front-of out at xs l =
-    let e : take at out ++ (xs ++ drop (at + length xs) out) ≡ take at out ++ xs ++ drop (at + length xs) out = sym (append-assoc (take at out) xs (drop (at + length xs) out)) in
-    rw e (take-at (take at out ++ xs) (drop (at + length xs) out) (at + length xs) (omega (arith, length-append (take at out) xs, length-take-le at out (omega arith))))
+front_of : (out : List ℕ) (at : ℕ) (xs : List ℕ) → at + length xs ≤ length out → take (at + length xs) (over out at xs) ≡ take at out ++ xs
+front_of out at xs l =
+    let e : take at out ++ (xs ++ drop (at + length xs) out) ≡ take at out ++ xs ++ drop (at + length xs) out = sym (append_assoc (take at out) xs (drop (at + length xs) out)) in
+    rw e (take_at (take at out ++ xs) (drop (at + length xs) out) (at + length xs) (omega (arith, length-append (take at out) xs, length-take-le at out (omega arith))))
 
 back-of : (out : List ℕ) (at : ℕ) (xs : List ℕ) (n : ℕ) → at + length xs ≤ length out → drop (at + length xs + n) (over out at xs) ≡ drop (at + length xs + n) out
 back-of out at xs n l =
-    let e : take at out ++ (xs ++ drop (at + length xs) out) ≡ take at out ++ xs ++ drop (at + length xs) out = sym (append-assoc (take at out) xs (drop (at + length xs) out)) in
+    let e : take at out ++ (xs ++ drop (at + length xs) out) ≡ take at out ++ xs ++ drop (at + length xs) out = sym (append_assoc (take at out) xs (drop (at + length xs) out)) in
     let s : length (take at out ++ xs) ≡ at + length xs = omega (arith, length-append (take at out) xs, length-take-le at out (omega arith)) in
     rw e (sym (drop-drop n (at + length xs) (take at out ++ xs ++ drop (at + length xs) out))
-    ∙ ap (drop n) (drop-at (take at out ++ xs) (drop (at + length xs) out) (at + length xs) s)
+    ∙ ap (drop n) (drop_at (take at out ++ xs) (drop (at + length xs) out) (at + length xs) s)
     ∙ drop-drop n (at + length xs) out)
 
 pub over-over : (out : List ℕ) (at : ℕ) (xs ys : List ℕ) → at + length xs + length ys ≤ length out
@@ -39,88 +39,88 @@ pub over-over : (out : List ℕ) (at : ℕ) (xs ys : List ℕ) → at + length x
 over-over out at xs ys l =
     let n : length (xs ++ ys) ≡ length xs + length ys = length-append xs ys in
     let m : at + length (xs ++ ys) ≡ at + length xs + length ys = omega arith in
-    rw (front-of out at xs (omega arith), back-of out at xs (length ys) (omega arith), m)
-    (append-assoc (take at out) xs (ys ++ drop (at + length xs + length ys) out)
-    ∙ ap (λ (zs : List ℕ). take at out ++ zs) (sym (append-assoc xs ys (drop (at + length xs + length ys) out))))
+    rw (front_of out at xs (omega arith), back-of out at xs (length ys) (omega arith), m)
+    (append_assoc (take at out) xs (ys ++ drop (at + length xs + length ys) out)
+    ∙ ap (λ (zs : List ℕ). take at out ++ zs) (sym (append_assoc xs ys (drop (at + length xs + length ys) out))))
 
 -- ---- one row
 
-pub length-group : (rows : List ℕ) (n count : ℕ) → isGroup (number rows n 1) ≡ true → (x : ℕ) → x ≡ insideIn rows n count → x ≡ lengthIn rows n count
+pub length-group : (rows : List ℕ) (n count : ℕ) → is_group (number rows n 1) ≡ true → (x : ℕ) → x ≡ inside_in rows n count → x ≡ length_in rows n count
 length-group rows n count g x e = rw g e
 
-pub length-value : (rows : List ℕ) (n count : ℕ) → isGroup (number rows n 1) ≡ false → (x : ℕ) → x ≡ number rows n 4 → x ≡ lengthIn rows n count
+pub length-value : (rows : List ℕ) (n count : ℕ) → is_group (number rows n 1) ≡ false → (x : ℕ) → x ≡ number rows n 4 → x ≡ length_in rows n count
 length-value rows n count g x e = rw g e
 
 module _ (rows : List ℕ) (n count : ℕ) (source : List ℕ) (own : Bool) (out : List ℕ) (at : ℕ) where
   pub put-aside : (number rows n 5 ≡ 0 → ⊥) → PutRow rows n count source own out at at out
-  put-aside z = record { next = rw (ne-eqb (number rows n 5) 0 z) (sym (add-zero at)); left = rw (ne-eqb (number rows n 5) 0 z) (over-none out at) }
+  put-aside z = record { next = rw (ne_eqb (number rows n 5) 0 z) (sym (add-zero at)); left = rw (ne_eqb (number rows n 5) 0 z) (over_none out at) }
 
-  part-group : number rows n 5 ≡ 0 → isGroup (number rows n 1) ≡ true → partIn rows n count source own ≡ headOctets (number rows n 1) (lengthIn rows n count) (lastIn rows n source own)
+  part-group : number rows n 5 ≡ 0 → is_group (number rows n 1) ≡ true → part_within rows n count source own ≡ head_octets (number rows n 1) (length_in rows n count) (last_in rows n source own)
   part-group z g = rw (eq-eqb (number rows n 5) 0 z, g)
 
-  part-value : number rows n 5 ≡ 0 → isGroup (number rows n 1) ≡ false
-      → partIn rows n count source own ≡ headOctets (number rows n 1) (lengthIn rows n count) (lastIn rows n source own) ++ take (number rows n 4) (drop (number rows n 3) source)
+  part-value : number rows n 5 ≡ 0 → is_group (number rows n 1) ≡ false
+      → part_within rows n count source own ≡ head_octets (number rows n 1) (length_in rows n count) (last_in rows n source own) ++ take (number rows n 4) (drop (number rows n 3) source)
   part-value z g = rw (eq-eqb (number rows n 5) 0 z, g)
 
-  pub put-group : number rows n 5 ≡ 0 → isGroup (number rows n 1) ≡ true → (len end : ℕ) → len ≡ lengthIn rows n count → end ≡ lastIn rows n source own
-      → (out′ : List ℕ) → out′ ≡ headed out at (number rows n 1) len end → PutRow rows n count source own out at (at + 4) out′
-  put-group z g len end e f out′ h = record {
+  pub put-group : number rows n 5 ≡ 0 → is_group (number rows n 1) ≡ true → (len end : ℕ) → len ≡ length_in rows n count → end ≡ last_in rows n source own
+      → (out' : List ℕ) → out' ≡ headed out at (number rows n 1) len end → PutRow rows n count source own out at (at + 4) out'
+  put-group z g len end e f out' h = record {
     next = ap (λ (xs : List ℕ). at + length xs) (sym (part-group z g));
     left = h ∙ rw (part-group z g, e, f);
   }
 
-  pub put-value : number rows n 5 ≡ 0 → isGroup (number rows n 1) ≡ false → (len end place : ℕ) → len ≡ lengthIn rows n count → end ≡ lastIn rows n source own → place ≡ number rows n 3
-      → number rows n 3 + number rows n 4 ≤ length source → at + length (partIn rows n count source own) ≤ length out
+  pub put-value : number rows n 5 ≡ 0 → is_group (number rows n 1) ≡ false → (len end place : ℕ) → len ≡ length_in rows n count → end ≡ last_in rows n source own → place ≡ number rows n 3
+      → number rows n 3 + number rows n 4 ≤ length source → at + length (part_within rows n count source own) ≤ length out
       → (out₁ out₂ : List ℕ) → out₁ ≡ headed out at (number rows n 1) len end → out₂ ≡ valued source place len out₁ (at + 4) → PutRow rows n count source own out at (at + 4 + len) out₂
   put-value z g len end place e f p there room out₁ out₂ h q =
       let l4 : len ≡ number rows n 4 = e ∙ rw g in
       let vs : length (take (number rows n 4) (drop (number rows n 3) source)) ≡ number rows n 4 = length-take-le (number rows n 4) (drop (number rows n 3) source) (omega (arith, length-drop (number rows n 3) source)) in
-      let hs : List ℕ = headOctets (number rows n 1) (lengthIn rows n count) (lastIn rows n source own) in
+      let hs : List ℕ = head_octets (number rows n 1) (length_in rows n count) (last_in rows n source own) in
       let part = part-value z g in
-      let size : length (partIn rows n count source own) ≡ 4 + number rows n 4 = ap length part ∙ omega (arith, vs) in
-      let oo : over (over out at (headOctets (number rows n 1) (lengthIn rows n count) (lastIn rows n source own))) (at + 4) (take (number rows n 4) (drop (number rows n 3) source))
-      ≡ over out at (headOctets (number rows n 1) (lengthIn rows n count) (lastIn rows n source own) ++ take (number rows n 4) (drop (number rows n 3) source)) =
-      over-over out at (headOctets (number rows n 1) (lengthIn rows n count) (lastIn rows n source own)) (take (number rows n 4) (drop (number rows n 3) source)) (omega (arith, vs, size, room)) in
+      let size : length (part_within rows n count source own) ≡ 4 + number rows n 4 = ap length part ∙ omega (arith, vs) in
+      let oo : over (over out at (head_octets (number rows n 1) (length_in rows n count) (last_in rows n source own))) (at + 4) (take (number rows n 4) (drop (number rows n 3) source))
+      ≡ over out at (head_octets (number rows n 1) (length_in rows n count) (last_in rows n source own) ++ take (number rows n 4) (drop (number rows n 3) source)) =
+      over-over out at (head_octets (number rows n 1) (length_in rows n count) (last_in rows n source own)) (take (number rows n 4) (drop (number rows n 3) source)) (omega (arith, vs, size, room)) in
       record {
         next = omega (arith, size, l4);
-        left = q ∙ same-value source place (number rows n 3) len (number rows n 4) out₁ (over out at (headOctets (number rows n 1) (lengthIn rows n count) (lastIn rows n source own))) (at + 4) p l4 (h ∙ rw (e, f)) vs ∙ oo ∙ ap (over out at) (sym part);
+        left = q ∙ same-value source place (number rows n 3) len (number rows n 4) out₁ (over out at (head_octets (number rows n 1) (length_in rows n count) (last_in rows n source own))) (at + 4) p l4 (h ∙ rw (e, f)) vs ∙ oo ∙ ap (over out at) (sym part);
       }
     where
-      same-value : (source : List ℕ) (place place′ len len′ : ℕ) (out₁ out₂ : List ℕ) (to : ℕ) → place ≡ place′ → len ≡ len′ → out₁ ≡ out₂ → length (take len′ (drop place′ source)) ≡ len′
-          → valued source place len out₁ to ≡ over out₂ to (take len′ (drop place′ source))
-      same-value source place place′ len len′ out₁ out₂ to a c d s = rw (a, c, d, s)
+      same-value : (source : List ℕ) (place place' len len' : ℕ) (out₁ out₂ : List ℕ) (to : ℕ) → place ≡ place' → len ≡ len' → out₁ ≡ out₂ → length (take len' (drop place' source)) ≡ len'
+          → valued source place len out₁ to ≡ over out₂ to (take len' (drop place' source))
+      same-value source place place' len len' out₁ out₂ to a c d s = rw (a, c, d, s)
 
-  pub put-heading : number rows n 5 ≡ 0 → PutsRow rows n count source own out at → (len : ℕ) → len ≡ lengthIn rows n count → Heading out at (number rows n 1) len
-  put-heading z p len e =
-      let a : 4 ≤ length (partIn rows n count source own) = least (isGroup (number rows n 1)) refl in
-      record { room = omega (arith, p .room); typ-octet = p .fit .typ; two = omega (arith, p .fit .len, e) }
+  pub put_heading : number rows n 5 ≡ 0 → PutsRow rows n count source own out at → (len : ℕ) → len ≡ length_in rows n count → Heading out at (number rows n 1) len
+  put_heading z p len e =
+      let a : 4 ≤ length (part_within rows n count source own) = least (is_group (number rows n 1)) refl in
+      record { room = omega (arith, p.room); typ_octet = p.fit.typ; two = omega (arith, p.fit.len, e) }
     where
-      least : (g : Bool) → isGroup (number rows n 1) ≡ g → 4 ≤ length (partIn rows n count source own)
+      least : (g : Bool) → is_group (number rows n 1) ≡ g → 4 ≤ length (part_within rows n count source own)
       least true g = omega (arith, ap length (part-group z g))
       least false g = omega (arith, ap length (part-value z g))
 
-  pub put-valued : number rows n 5 ≡ 0 → isGroup (number rows n 1) ≡ false → PutsRow rows n count source own out at → (len place : ℕ) → len ≡ lengthIn rows n count → place ≡ number rows n 3
+  pub put-valued : number rows n 5 ≡ 0 → is_group (number rows n 1) ≡ false → PutsRow rows n count source own out at → (len place : ℕ) → len ≡ length_in rows n count → place ≡ number rows n 3
       → (out₁ : List ℕ) → length out₁ ≡ length out → Valued source place len out₁ (at + 4)
   put-valued z g p len place e q out₁ s =
       let l4 : len ≡ number rows n 4 = e ∙ rw g in
-      let there = p .fit .there g in
+      let there = p.fit.there g in
       let vs : length (take (number rows n 4) (drop (number rows n 3) source)) ≡ number rows n 4 = length-take-le (number rows n 4) (drop (number rows n 3) source) (omega (arith, length-drop (number rows n 3) source)) in
-      let size : length (partIn rows n count source own) ≡ 4 + number rows n 4 = ap length (part-value z g) ∙ omega (arith, vs) in
-      record { there = omega (arith, there, l4, q); room = omega (arith, p .room, size, l4, s) }
+      let size : length (part_within rows n count source own) ≡ 4 + number rows n 4 = ap length (part-value z g) ∙ omega (arith, vs) in
+      record { there = omega (arith, there, l4, q); room = omega (arith, p.room, size, l4, s) }
 
 -- ---- row after row
 
-one-less : (n count : ℕ) → n < count → count - n ≡ suc (count - (n + 1))
-one-less n count l = omega arith
+one_less : (n count : ℕ) → n < count → count - n ≡ suc (count - (n + 1))
+one_less n count l = omega arith
 
 module _ (rows : List ℕ) (count : ℕ) (source : List ℕ) (own : Bool) where
-  parts-next : (n : ℕ) → n < count → partsIn rows count source own n (count - n) ≡ partIn rows n count source own ++ partsIn rows count source own (n + 1) (count - (n + 1))
-  unfolding partsIn
-  parts-next n l = rw (one-less n count l)
+  parts_next : (n : ℕ) → n < count → parts_in rows count source own n (count - n) ≡ part_within rows n count source own ++ parts_in rows count source own (n + 1) (count - (n + 1))
+  unfolding parts_in
+  parts_next n l = rw (one_less n count l)
 
-  parts-none : (n : ℕ) → count ≤ n → partsIn rows count source own n (count - n) ≡ []
-  unfolding partsIn
-  parts-none n l = let e : count - n ≡ 0 = omega arith in rw e
+  parts_none : (n : ℕ) → count ≤ n → parts_in rows count source own n (count - n) ≡ []
+  unfolding parts_in
+  parts_none n l = let e : count - n ≡ 0 = omega arith in rw e
 
   -- the rows before n are laid, and `front` is what they are
   pub record Putting (out₀ : List ℕ) (at : ℕ) (out : List ℕ) (to n : ℕ) : Type 0 where
@@ -129,44 +129,44 @@ module _ (rows : List ℕ) (count : ℕ) (source : List ℕ) (own : Bool) where
     pub long : length out ≡ length out₀
     pub next : to ≡ at + length front
     pub left : out ≡ over out₀ at front
-    pub whole : front ++ partsIn rows count source own n (count - n) ≡ partsIn rows count source own 0 count
+    pub whole : front ++ parts_in rows count source own n (count - n) ≡ parts_in rows count source own 0 count
 
   module _ (out₀ : List ℕ) (at : ℕ) where
     pub put-begins : Putting out₀ at out₀ at 0
     put-begins =
         let e : count - 0 ≡ count = omega arith in
-        record { front = []; most = omega arith; long = refl; next = sym (add-zero at); left = over-none out₀ at; whole = rw e }
+        record { front = []; most = omega arith; long = refl; next = sym (add-zero at); left = over_none out₀ at; whole = rw e }
 
     module _ (p : PutsRows rows count source own out₀ at) where
       all-length : (out : List ℕ) (to n : ℕ) (s : Putting out₀ at out to n) → n < count
-          → length (s .front) + length (partIn rows n count source own) ≤ length (partsIn rows count source own 0 count)
+          → length s.front + length (part_within rows n count source own) ≤ length (parts_in rows count source own 0 count)
       all-length out to n s l =
           omega (
             arith,
-            ap length (s .whole),
-            ap length (parts-next n l),
-            length-append (s .front) (partsIn rows count source own n (count - n)),
-            length-append (partIn rows n count source own) (partsIn rows count source own (n + 1) (count - (n + 1))),
+            ap length s.whole,
+            ap length (parts_next n l),
+            length-append s.front (parts_in rows count source own n (count - n)),
+            length-append (part_within rows n count source own) (parts_in rows count source own (n + 1) (count - (n + 1))),
           )
 
-      pub put-asks : (out : List ℕ) (to n : ℕ) → Putting out₀ at out to n → n < count → PutsRow rows n count source own out to
-      put-asks out to n s l = record { has = p .has; one = l; fit = p .fits n l; room = omega (arith, s .next, s .long, all-length out to n s l, p .room) }
+      pub put_asks : (out : List ℕ) (to n : ℕ) → Putting out₀ at out to n → n < count → PutsRow rows n count source own out to
+      put_asks out to n s l = record { has = p.has; one = l; fit = p.fits n l; room = omega (arith, s.next, s.long, all-length out to n s l, p.room) }
 
-      pub put-goes : (out : List ℕ) (to n : ℕ) → Putting out₀ at out to n → n < count → (to′ : ℕ) (out′ : List ℕ) → PutRow rows n count source own out to to′ out′ → length out′ ≡ length out
-          → Putting out₀ at out′ to′ (n + 1)
-      put-goes out to n s l to′ out′ r long =
+      pub put-goes : (out : List ℕ) (to n : ℕ) → Putting out₀ at out to n → n < count → (to' : ℕ) (out' : List ℕ) → PutRow rows n count source own out to to' out' → length out' ≡ length out
+          → Putting out₀ at out' to' (n + 1)
+      put-goes out to n s l to' out' r long =
           let f = all-length out to n s l in
           record {
-            front = s .front ++ partIn rows n count source own;
+            front = s.front ++ part_within rows n count source own;
             most = omega arith;
-            long = long ∙ s .long;
-            next = omega (arith, r .next, s .next, length-append (s .front) (partIn rows n count source own));
-            left = r .left ∙ rw (s .next, s .left) (over-over out₀ at (s .front) (partIn rows n count source own) (omega (arith, f, p .room)));
-            whole = append-assoc (s .front) (partIn rows n count source own) (partsIn rows count source own (n + 1) (count - (n + 1)))
-                ∙ ap (λ (xs : List ℕ). s .front ++ xs) (sym (parts-next n l)) ∙ s .whole;
+            long = long ∙ s.long;
+            next = omega (arith, r.next, s.next, length-append s.front (part_within rows n count source own));
+            left = r.left ∙ rw (s.next, s.left) (over-over out₀ at s.front (part_within rows n count source own) (omega (arith, f, p.room)));
+            whole = append_assoc s.front (part_within rows n count source own) (parts_in rows count source own (n + 1) (count - (n + 1)))
+                ∙ ap (λ (xs : List ℕ). s.front ++ xs) (sym (parts_next n l)) ∙ s.whole;
           }
 
-    pub put-ends : (out : List ℕ) (to n : ℕ) → Putting out₀ at out to n → count ≤ n → out ≡ over out₀ at (partsIn rows count source own 0 count)
+    pub put-ends : (out : List ℕ) (to n : ℕ) → Putting out₀ at out to n → count ≤ n → out ≡ over out₀ at (parts_in rows count source own 0 count)
     put-ends out to n s l =
-        let e : s .front ≡ partsIn rows count source own 0 count = sym (append-nil (s .front)) ∙ ap (λ (xs : List ℕ). s .front ++ xs) (sym (parts-none n l)) ∙ s .whole in
-        s .left ∙ ap (over out₀ at) e
+        let e : s.front ≡ parts_in rows count source own 0 count = sym (append-nil s.front) ∙ ap (λ (xs : List ℕ). s.front ++ xs) (sym (parts_none n l)) ∙ s.whole in
+        s.left ∙ ap (over out₀ at) e

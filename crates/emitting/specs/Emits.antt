@@ -1,14 +1,9 @@
 -- Rows written out, by their numbers. Assumes nothing.
-use mathlib.Core.Path.{_≡_}
-use mathlib.Core.Bool.{Bool, true, false, cond}
-use mathlib.Core.List.{List, [], _∷_, _++_}
-use Prim.Native.Nat.{ℕ, zero, suc, _+_, _-_, _*_, _/_, _%_, _≤_, _<_}
-use lib.Dec.{eqb, ltb}
-use lib.ListN.{length, getD, take, drop}
-use Rattle·rules.specs.Sizes.{rowNumbers}
-use Rattle·rules.specs.Types.{isGroup}
-use Rattle·rules.specs.Standing.{kept}
-use Rattle·rules.specs.Emitting.{headOctets}
+use Rattle.std.specs.Prelude.{◌≡◌, Bool, true, false, cond, List, [], ◌∷◌, ◌++◌, ℕ, zero, suc, ◌+◌, ◌-◌, ◌*◌, ◌/◌, ◌%◌, ◌≤◌, ◌<◌, eqb, ltb, length, get_or, take, drop}
+use Rattle.rules.specs.Sizes.{row_numbers}
+use Rattle.rules.specs.Types.{is_group}
+use Rattle.rules.specs.Standing.{kept}
+use Rattle.rules.specs.Emitting.{head_octets}
 
 -- a number of 16 bits
 pub record Wide (x r : ℕ) : Type 0 where
@@ -17,48 +12,48 @@ pub record Wide (x r : ℕ) : Type 0 where
 
 -- number c of row i
 abbrev pub number : List ℕ → ℕ → ℕ → ℕ
-number rows i c = getD rows (rowNumbers * i + c) 0
+number rows i c = get_or rows (row_numbers * i + c) 0
 
 abbrev pub HasRow : List ℕ → ℕ → Type 0
-HasRow rows n = rowNumbers * n + rowNumbers ≤ length rows
+HasRow rows n = row_numbers * n + row_numbers ≤ length rows
 
 pub record HasRows (rows : List ℕ) (count : ℕ) : Type 0 where
-  pub long : rowNumbers * count ≤ length rows
+  pub long : row_numbers * count ≤ length rows
   pub few : count ≤ 65535
 
 -- ---- sizes
 
-abbrev pub sizeIn : List ℕ → ℕ → ℕ
-sizeIn rows n = cond (eqb (number rows n 5) kept) (cond (isGroup (number rows n 1)) 4 (4 + number rows n 4)) 0
+abbrev pub size_at_row : List ℕ → ℕ → ℕ
+size_at_row rows n = cond (eqb (number rows n 5) kept) (cond (is_group (number rows n 1)) 4 (4 + number rows n 4)) 0
 
 pub record Sized (rows : List ℕ) (n r : ℕ) : Type 0 where
-  pub is : r ≡ sizeIn rows n
+  pub is : r ≡ size_at_row rows n
   pub low : r ≤ 65539
 
 -- k rows from j on
-unfoldable pub sizesIn : List ℕ → ℕ → ℕ → ℕ
-sizesIn rows j zero = 0
-sizesIn rows j (suc k) = sizeIn rows j + sizesIn rows (j + 1) k
+unfoldable pub sizes_in : List ℕ → ℕ → ℕ → ℕ
+sizes_in rows j zero = 0
+sizes_in rows j (suc k) = size_at_row rows j + sizes_in rows (j + 1) k
 
 pub record Summed (sum count r : ℕ) : Type 0 where
   pub is : r ≡ sum
   pub low : r ≤ count * 65539
 
 -- those of k rows from j on that stand inside row r
-unfoldable pub withinIn : List ℕ → ℕ → ℕ → ℕ → ℕ
-withinIn rows r j zero = 0
-withinIn rows r j (suc k) = cond (ltb (number rows j 0) r) 0 (sizeIn rows j + withinIn rows r (j + 1) k)
+unfoldable pub within_rows : List ℕ → ℕ → ℕ → ℕ → ℕ
+within_rows rows r j zero = 0
+within_rows rows r j (suc k) = cond (ltb (number rows j 0) r) 0 (size_at_row rows j + within_rows rows r (j + 1) k)
 
-abbrev pub insideIn : List ℕ → ℕ → ℕ → ℕ
-insideIn rows n count = withinIn rows (n + 1) (n + 1) (count - (n + 1))
+abbrev pub inside_in : List ℕ → ℕ → ℕ → ℕ
+inside_in rows n count = within_rows rows (n + 1) (n + 1) (count - (n + 1))
 
-abbrev pub lengthIn : List ℕ → ℕ → ℕ → ℕ
-lengthIn rows n count = cond (isGroup (number rows n 1)) (insideIn rows n count) (number rows n 4)
+abbrev pub length_in : List ℕ → ℕ → ℕ → ℕ
+length_in rows n count = cond (is_group (number rows n 1)) (inside_in rows n count) (number rows n 4)
 
 -- ---- the parts of a row
 
-abbrev pub lastIn : List ℕ → ℕ → List ℕ → Bool → ℕ
-lastIn rows n source own = cond own (getD source (number rows n 3 - 1) 0) (number rows n 2 % 256)
+abbrev pub last_in : List ℕ → ℕ → List ℕ → Bool → ℕ
+last_in rows n source own = cond own (get_or source (number rows n 3 - 1) 0) (number rows n 2 % 256)
 
 pub record HasLast (rows : List ℕ) (n : ℕ) (source : List ℕ) (own : Bool) : Type 0 where
   pub row : HasRow rows n
@@ -67,11 +62,11 @@ pub record HasLast (rows : List ℕ) (n : ℕ) (source : List ℕ) (own : Bool) 
 
 pub record Heading (out : List ℕ) (at typ len : ℕ) : Type 0 where
   pub room : at + 4 ≤ length out
-  pub typ-octet : typ < 256
+  pub typ_octet : typ < 256
   pub two : len < 65536
 
 abbrev pub headed : List ℕ → ℕ → ℕ → ℕ → ℕ → List ℕ
-headed out at typ len end = take at out ++ (headOctets typ len end ++ drop (at + 4) out)
+headed out at typ len end = take at out ++ (head_octets typ len end ++ drop (at + 4) out)
 
 pub record Valued (source : List ℕ) (place len : ℕ) (out : List ℕ) (at : ℕ) : Type 0 where
   pub there : place + len ≤ length source
@@ -82,43 +77,43 @@ valued source place len out at = take at out ++ (take len (drop place source) ++
 
 -- ---- a row, and rows
 
-abbrev pub valueIn : List ℕ → ℕ → List ℕ → List ℕ
-valueIn rows n source = cond (isGroup (number rows n 1)) [] (take (number rows n 4) (drop (number rows n 3) source))
+abbrev pub value_in : List ℕ → ℕ → List ℕ → List ℕ
+value_in rows n source = cond (is_group (number rows n 1)) [] (take (number rows n 4) (drop (number rows n 3) source))
 
-abbrev pub partIn : List ℕ → ℕ → ℕ → List ℕ → Bool → List ℕ
-partIn rows n count source own =
-    cond (eqb (number rows n 5) kept) (headOctets (number rows n 1) (lengthIn rows n count) (lastIn rows n source own) ++ valueIn rows n source) []
+abbrev pub part_within : List ℕ → ℕ → ℕ → List ℕ → Bool → List ℕ
+part_within rows n count source own =
+    cond (eqb (number rows n 5) kept) (head_octets (number rows n 1) (length_in rows n count) (last_in rows n source own) ++ value_in rows n source) []
 
 -- k rows from n on
-unfoldable pub partsIn : List ℕ → ℕ → List ℕ → Bool → ℕ → ℕ → List ℕ
-partsIn rows count source own n zero = []
-partsIn rows count source own n (suc k) = partIn rows n count source own ++ partsIn rows count source own (n + 1) k
+unfoldable pub parts_in : List ℕ → ℕ → List ℕ → Bool → ℕ → ℕ → List ℕ
+parts_in rows count source own n zero = []
+parts_in rows count source own n (suc k) = part_within rows n count source own ++ parts_in rows count source own (n + 1) k
 
 -- a row that can be written
 pub record RowFit (rows : List ℕ) (n count : ℕ) (source : List ℕ) (own : Bool) : Type 0 where
   pub typ : number rows n 1 < 256
-  pub len : lengthIn rows n count < 65536
+  pub len : length_in rows n count < 65536
   pub least : own ≡ true → 1 ≤ number rows n 3
   pub most : own ≡ true → number rows n 3 ≤ length source
-  pub there : isGroup (number rows n 1) ≡ false → number rows n 3 + number rows n 4 ≤ length source
+  pub there : is_group (number rows n 1) ≡ false → number rows n 3 + number rows n 4 ≤ length source
 
 pub record PutsRow (rows : List ℕ) (n count : ℕ) (source : List ℕ) (own : Bool) (out : List ℕ) (at : ℕ) : Type 0 where
   pub has : HasRows rows count
   pub one : n < count
   pub fit : RowFit rows n count source own
-  pub room : at + length (partIn rows n count source own) ≤ length out
+  pub room : at + length (part_within rows n count source own) ≤ length out
 
 abbrev pub over : List ℕ → ℕ → List ℕ → List ℕ
 over out at xs = take at out ++ (xs ++ drop (at + length xs) out)
 
-pub record PutRow (rows : List ℕ) (n count : ℕ) (source : List ℕ) (own : Bool) (out : List ℕ) (at r : ℕ) (out′ : List ℕ) : Type 0 where
-  pub next : r ≡ at + length (partIn rows n count source own)
-  pub left : out′ ≡ over out at (partIn rows n count source own)
+pub record PutRow (rows : List ℕ) (n count : ℕ) (source : List ℕ) (own : Bool) (out : List ℕ) (at r : ℕ) (out' : List ℕ) : Type 0 where
+  pub next : r ≡ at + length (part_within rows n count source own)
+  pub left : out' ≡ over out at (part_within rows n count source own)
 
 pub record PutsRows (rows : List ℕ) (count : ℕ) (source : List ℕ) (own : Bool) (out : List ℕ) (at : ℕ) : Type 0 where
   pub has : HasRows rows count
   pub fits : (n : ℕ) → n < count → RowFit rows n count source own
-  pub room : at + length (partsIn rows count source own 0 count) ≤ length out
+  pub room : at + length (parts_in rows count source own 0 count) ≤ length out
 
-abbrev pub putRows : List ℕ → ℕ → List ℕ → Bool → List ℕ → ℕ → List ℕ
-putRows rows count source own out at = over out at (partsIn rows count source own 0 count)
+abbrev pub put_rows : List ℕ → ℕ → List ℕ → Bool → List ℕ → ℕ → List ℕ
+put_rows rows count source own out at = over out at (parts_in rows count source own 0 count)

@@ -1,22 +1,20 @@
 // Rows of six numbers written out as octets, in order: a row set aside is left out, and a group's length is what its kept inside takes.
-ghost use mathlib.Core.Path.{_≡_};
-ghost use Prim.Native.Nat.{_+_, _*_, _≤_, _<_};
-ghost use lib.ListN.{length};
-ghost use Rattle·rules.specs.Types.{isGroup};
-ghost use Rattle·facts.specs.Facts.{facts};
-ghost use Rattle·emitting·specs.specs.Emits.{Wide, HasRow, HasRows, Sized, sizesIn, Summed, insideIn, Heading, headed, Valued, valued, lastIn, HasLast, lengthIn, PutsRow, PutRow, PutsRows, putRows};
+ghost use Rattle.std.specs.Prelude.{◌≡◌, ◌+◌, ◌*◌, ◌≤◌, ◌<◌, length};
+ghost use Rattle.rules.specs.Types.{is_group};
+ghost use Rattle.facts.specs.Facts.{facts};
+ghost use Rattle.emitting.specs.Emits.{Wide, HasRow, HasRows, Sized, sizes_in, Summed, inside_in, Heading, headed, Valued, valued, last_in, HasLast, length_in, PutsRow, PutRow, PutsRows, put_rows};
 
 // A number of a row, to count with.
 pub fn wide(x: u16) -> usize
-    ensures { λ r. ⌜ Wide x r ⌝ }
+    ensures { Wide x result }
 {
     x as usize
 }
 
 // No number over 255 is a type.
 pub fn is_group(types: &[u8; 64], typ: u16) -> bool
-    requires { ⌜ now types ≡ facts ⌝ }
-    ensures { λ r. ⌜ r ≡ isGroup typ ⌝ }
+    requires { types.now ≡ facts }
+    ensures { result ≡ is_group typ }
 {
     if 255 < typ {
         return false;
@@ -26,8 +24,8 @@ pub fn is_group(types: &[u8; 64], typ: u16) -> bool
 
 // The octets that row `n` takes of itself.
 pub(crate) fn size(types: &[u8; 64], rows: &[u16], n: usize) -> usize
-    requires { ⌜ (now types ≡ facts) × HasRow (now rows) n ⌝ }
-    ensures { λ r. ⌜ Sized (now (rows .entry)) n r ⌝ }
+    requires { (types.now ≡ facts) × HasRow rows.now n }
+    ensures { Sized rows.now n result }
 {
     let at = 6 * n;
     if rows[at + 5] != 0 {
@@ -41,8 +39,8 @@ pub(crate) fn size(types: &[u8; 64], rows: &[u16], n: usize) -> usize
 
 // The octets that the first `count` rows take.
 pub fn sizes(types: &[u8; 64], rows: &[u16], count: usize) -> usize
-    requires { ⌜ (now types ≡ facts) × HasRows (now rows) count ⌝ }
-    ensures { λ r. ⌜ Summed (sizesIn (now (rows .entry)) 0 count) count r ⌝ }
+    requires { (types.now ≡ facts) × HasRows rows.now count }
+    ensures { Summed (sizes_in rows.now 0 count) count result }
 {
     let mut sum = 0usize;
     let mut n = 0;
@@ -55,8 +53,8 @@ pub fn sizes(types: &[u8; 64], rows: &[u16], count: usize) -> usize
 
 // The octets that the inside of row `n` takes: rows stand depth first, so that it ends before the first row whose parent stands before `n`.
 pub(crate) fn inside(types: &[u8; 64], rows: &[u16], n: usize, count: usize) -> usize
-    requires { ⌜ (now types ≡ facts) × HasRows (now rows) count × (n < count) ⌝ }
-    ensures { λ r. ⌜ r ≡ insideIn (now (rows .entry)) n count ⌝ }
+    requires { (types.now ≡ facts) × HasRows rows.now count × (n < count) }
+    ensures { result ≡ inside_in rows.now n count }
 {
     let mut sum = 0usize;
     let mut j = n + 1;
@@ -72,8 +70,8 @@ pub(crate) fn inside(types: &[u8; 64], rows: &[u16], n: usize, count: usize) -> 
 
 // The length of the value of row `n`, as it is written.
 pub(crate) fn value_length(types: &[u8; 64], rows: &[u16], n: usize, count: usize) -> usize
-    requires { ⌜ (now types ≡ facts) × HasRows (now rows) count × (n < count) ⌝ }
-    ensures { λ r. ⌜ r ≡ lengthIn (now (rows .entry)) n count ⌝ }
+    requires { (types.now ≡ facts) × HasRows rows.now count × (n < count) }
+    ensures { result ≡ length_in rows.now n count }
 {
     let at = 6 * n;
     if is_group(types, rows[at + 1]) {
@@ -84,8 +82,8 @@ pub(crate) fn value_length(types: &[u8; 64], rows: &[u16], n: usize, count: usiz
 
 // The last octet of the header of row `n`: the one that stands before its value in the source, or else its instance.
 pub(crate) fn last(rows: &[u16], n: usize, source: &[u8], own: bool) -> u8
-    requires { ⌜ HasLast (now rows) n (now source) own ⌝ }
-    ensures { λ r. ⌜ r ≡ lastIn (now (rows .entry)) n (now (source .entry)) own ⌝ }
+    requires { HasLast rows.now n source.now own }
+    ensures { result ≡ last_in rows.now n source.now own }
 {
     let at = 6 * n;
     if own {
@@ -97,8 +95,8 @@ pub(crate) fn last(rows: &[u16], n: usize, source: &[u8], own: bool) -> u8
 
 // The header of an element.
 pub(crate) fn put_header(out: &mut [u8], at: usize, typ: u16, len: usize, end: u8)
-    requires { ⌜ Heading (now out) at typ len ⌝ }
-    ensures { λ _. ⌜ now (out .exit) ≡ headed (now (out .entry)) at typ len end ⌝ }
+    requires { Heading out.old at typ len }
+    ensures { out.new ≡ headed out.old at typ len end }
 {
     out[at] = typ as u8;
     out[at + 1] = (len / 256) as u8;
@@ -108,8 +106,8 @@ pub(crate) fn put_header(out: &mut [u8], at: usize, typ: u16, len: usize, end: u
 
 // `len` octets of the source from `place` on, laid down at `at`.
 pub fn copy_value(source: &[u8], place: usize, len: usize, out: &mut [u8], at: usize)
-    requires { ⌜ Valued (now source) place len (now out) at ⌝ }
-    ensures { λ _. ⌜ now (out .exit) ≡ valued (now (source .entry)) place len (now (out .entry)) at ⌝ }
+    requires { Valued source.now place len out.old at }
+    ensures { out.new ≡ valued source.now place len out.old at }
 {
     let mut j = 0;
     while j < len {
@@ -129,8 +127,8 @@ pub(crate) fn put_row(
     out: &mut [u8],
     at: usize,
 ) -> usize
-    requires { ⌜ (now types ≡ facts) × PutsRow (now rows) n count (now source) own (now out) at ⌝ }
-    ensures { λ r. ⌜ PutRow (now (rows .entry)) n count (now (source .entry)) own (now (out .entry)) at r (now (out .exit)) ⌝ }
+    requires { (types.now ≡ facts) × PutsRow rows.now n count source.now own out.old at }
+    ensures { PutRow rows.now n count source.now own out.old at result out.new }
 {
     let row = 6 * n;
     if rows[row + 5] != 0 {
@@ -158,8 +156,8 @@ pub fn put_rows(
     out: &mut [u8],
     at: usize,
 )
-    requires { ⌜ (now types ≡ facts) × PutsRows (now rows) count (now source) own (now out) at ⌝ }
-    ensures { λ _. ⌜ now (out .exit) ≡ putRows (now (rows .entry)) count (now (source .entry)) own (now (out .entry)) at ⌝ }
+    requires { (types.now ≡ facts) × PutsRows rows.now count source.now own out.old at }
+    ensures { out.new ≡ put_rows rows.now count source.now own out.old at }
 {
     let mut to = at;
     let mut n = 0;

@@ -1,86 +1,32 @@
 // What the rules say of a type number. The least value length is a decision over ranges of the number; groups and the cover are a table with four
 // types an octet, the first in the lowest bits: 0 nothing, 1 covered whole, 2 covered but for the first octet, 3 a group.
-ghost use mathlib.Core.Path.{_≡_};
-ghost use Rattle·rules.specs.Types.{leastOf};
-ghost use Rattle·facts·specs.specs.Facts.{facts, Figure, Takes, below79, between, above95, leastBy, markIn, groupIn, openIn};
+ghost use Rattle.std.specs.Prelude.{◌≡◌};
+ghost use Rattle.rules.specs.Types.{least_of};
+ghost use Rattle.facts.specs.Facts.{facts, Figure, Takes, below79, between, above95, least_by, mark_in, group_in, open_in};
 
 const FACTS: [u8; 64] = [
     4, // 1
-    0,
-    0,
-    0,
-    0,
-    0,
-    0,
-    0,
-    0,
-    0,
-    0,
-    0,
-    0,
-    0,
-    0,
-    0,
-    0,
-    0,
-    80, // 74, 75
+    0, 0, 0, 0, 0, 0, 0, 0, 0, 0, 0, 0, 0, 0, 0, 0, 0, 80, // 74, 75
     145, // 76, 78, 79
-    0,
-    32, // 86
-    0,
-    12, // 93
-    0,
-    64, // 103
+    0, 32, // 86
+    0, 12, // 93
+    0, 64, // 103
     85, // 104 to 107
     13, // 108, 109
-    0,
-    0,
-    0,
-    0,
-    0,
-    0,
-    0,
-    0,
-    0,
-    0,
-    0,
-    0,
-    0,
-    0,
-    0,
-    0,
-    0,
-    3, // 180
-    0,
-    0,
-    0,
-    0,
-    0,
-    0,
-    0,
-    0,
-    0,
-    0,
-    0,
-    0,
-    0,
-    0,
-    0,
-    0,
-    0,
-    64, // 255
+    0, 0, 0, 0, 0, 0, 0, 0, 0, 0, 0, 0, 0, 0, 0, 0, 0, 3, // 180
+    0, 0, 0, 0, 0, 0, 0, 0, 0, 0, 0, 0, 0, 0, 0, 0, 0, 64, // 255
 ];
 
 // A constant is laid down anew at each use: a caller takes the table once, and lends it.
 pub fn table() -> [u8; 64]
-    ensures { λ r. ⌜ r ≡ facts ⌝ }
+    ensures { result ≡ facts }
 {
     FACTS
 }
 
 // What a part takes if it is there.
 pub(crate) fn part(there: bool, size: usize) -> usize
-    ensures { λ r. ⌜ Takes there size r ⌝ }
+    ensures { Takes there size result }
 {
     if there {
         return size;
@@ -90,14 +36,14 @@ pub(crate) fn part(there: bool, size: usize) -> usize
 
 // F-TEID: an IPv4 and an IPv6 address.
 pub(crate) fn of_87(first: u8) -> usize
-    ensures { λ r. ⌜ Figure (leastOf 87 first) r ⌝ }
+    ensures { Figure (least_of 87 first) result }
 {
     5 + part(first / 128 % 2 == 1, 4) + part(first / 64 % 2 == 1, 16)
 }
 
 // PDN Address Allocation: IPv4, IPv6 or both.
 pub(crate) fn of_79(first: u8) -> usize
-    ensures { λ r. ⌜ Figure (leastOf 79 first) r ⌝ }
+    ensures { Figure (least_of 79 first) result }
 {
     let low = first % 8;
     1 + part(low == 1, 4) + part(low == 2, 17) + part(low == 3, 21)
@@ -105,11 +51,10 @@ pub(crate) fn of_79(first: u8) -> usize
 
 // User Location: CGI, SAI, RAI, then TAI, ECGI, LAI.
 pub(crate) fn of_86(first: u8) -> usize
-    ensures { λ r. ⌜ Figure (leastOf 86 first) r ⌝ }
+    ensures { Figure (least_of 86 first) result }
 {
     let old = part(first % 2 == 1, 7) + part(first / 2 % 2 == 1, 7) + part(first / 4 % 2 == 1, 7);
-    1
-        + old
+    1 + old
         + part(first / 8 % 2 == 1, 5)
         + part(first / 16 % 2 == 1, 7)
         + part(first / 32 % 2 == 1, 5)
@@ -117,7 +62,7 @@ pub(crate) fn of_86(first: u8) -> usize
 
 // Types 0 to 78.
 pub(crate) fn below_79(typ: u8) -> usize
-    ensures { λ r. ⌜ Figure (below79 typ) r ⌝ }
+    ensures { Figure (below79 typ) result }
 {
     if typ == 72 {
         return 8;
@@ -133,7 +78,7 @@ pub(crate) fn below_79(typ: u8) -> usize
 
 // Types 80 to 95 that no first octet tells of.
 pub(crate) fn between(typ: u8) -> usize
-    ensures { λ r. ⌜ Figure (between typ) r ⌝ }
+    ensures { Figure (between typ) result }
 {
     if typ == 93 {
         return 0;
@@ -158,7 +103,7 @@ pub(crate) fn between(typ: u8) -> usize
 
 // Types 96 to 255.
 pub(crate) fn above_95(typ: u8) -> usize
-    ensures { λ r. ⌜ Figure (above95 typ) r ⌝ }
+    ensures { Figure (above95 typ) result }
 {
     if typ == 180 {
         return 0;
@@ -183,7 +128,7 @@ pub(crate) fn above_95(typ: u8) -> usize
 
 // The least length of a value of the type whose first octet is `first`.
 pub fn least(typ: u8, first: u8) -> usize
-    ensures { λ r. ⌜ Figure (leastBy typ first) r ⌝ }
+    ensures { Figure (least_by typ first) result }
 {
     if typ < 79 {
         return below_79(typ);
@@ -205,21 +150,21 @@ pub fn least(typ: u8, first: u8) -> usize
 
 // A type's mark in the table.
 pub(crate) fn mark(facts: &[u8; 64], typ: u8) -> u8
-    ensures { λ r. ⌜ r ≡ markIn (now (facts .entry)) typ ⌝ }
+    ensures { result ≡ mark_in facts.now typ }
 {
     let four = facts[(typ / 4) as usize];
     (four >> (2 * (typ % 4))) % 4
 }
 
 pub fn group(facts: &[u8; 64], typ: u8) -> bool
-    ensures { λ r. ⌜ r ≡ groupIn (now (facts .entry)) typ ⌝ }
+    ensures { result ≡ group_in facts.now typ }
 {
     mark(facts, typ) == 3
 }
 
 // How many leading octets of a value of `len` octets are left open: none if it is set aside.
 pub fn open_octets(facts: &[u8; 64], typ: u8, stand: u16, len: usize) -> usize
-    ensures { λ r. ⌜ r ≡ openIn (now (facts .entry)) typ stand len ⌝ }
+    ensures { result ≡ open_in facts.now typ stand len }
 {
     if stand == 1 {
         return 0;

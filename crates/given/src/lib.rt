@@ -1,25 +1,21 @@
 // The table that is given: its numbers, and the reasons of 14. Its numbers stand in a run of numbers and in octets after those; one of the two is empty.
-ghost use mathlib.Core.Path.{_≡_};
-ghost use mathlib.Core.Bool.{Bool};
-ghost use Prim.Native.Nat.{_+_, _*_, _≤_, _<_};
-ghost use lib.ListN.{length, getD};
-ghost use mathlib.Core.List.{[]};
-ghost use Rattle·facts.specs.Facts.{facts};
-ghost use Rattle·rules.proofs.Reasons.{RowRight, NoReason};
-ghost use Rattle·emitting.specs.Emits.{Wide};
-ghost use Rattle·given·specs.specs.Given.{tableIn, Told, HeaderRight, HasCells, HasCell, RowsRight, Climbs, Climbed, opened, Copies, Copied};
+ghost use Rattle.std.specs.Prelude.{◌≡◌, Bool, ◌+◌, ◌*◌, ◌≤◌, ◌<◌, length, get_or, []};
+ghost use Rattle.facts.specs.Facts.{facts};
+ghost use Rattle.rules.proofs.Reasons.{RowRight, NoReason};
+ghost use Rattle.emitting.specs.Emits.{Wide};
+ghost use Rattle.given.specs.Given.{table_in, Told, HeaderRight, HasCells, HasCell, RowsRight, Climbs, Climbed, opened, Copies, Copied};
 
 // Two octets as a number, high octet first.
 pub fn two(high: u8, low: u8) -> u16
-    ensures { λ r. ⌜ r ≡ high * 256 + low ⌝ }
+    ensures { result ≡ high * 256 + low }
 {
     high as u16 * 256 + low as u16
 }
 
 // Number `at` of the table.
 pub fn number(numbers: &[u16], octets: &[u8], at: usize) -> usize
-    requires { ⌜ at < length (tableIn (now numbers) (now octets)) ⌝ }
-    ensures { λ r. ⌜ Wide (getD (tableIn (now (numbers .entry)) (now (octets .entry))) at 0) r ⌝ }
+    requires { at < length (table_in numbers.now octets.now) }
+    ensures { Wide (get_or (table_in numbers.now octets.now) at 0) result }
 {
     if at < numbers.len() {
         return emitting::wide(numbers[at]);
@@ -30,7 +26,7 @@ pub fn number(numbers: &[u16], octets: &[u8], at: usize) -> usize
 
 // Has the table so many numbers?
 pub(crate) fn has(numbers: &[u16], octets: &[u8], n: usize) -> bool
-    ensures { λ r. ⌜ Told (n ≤ length (tableIn (now (numbers .entry)) (now (octets .entry)))) r ⌝ }
+    ensures { Told (n ≤ length (table_in numbers.now octets.now)) result }
 {
     if n <= numbers.len() {
         return true;
@@ -40,7 +36,7 @@ pub(crate) fn has(numbers: &[u16], octets: &[u8], n: usize) -> bool
 
 // The header agrees with itself, if all rows are kept, and the table is as long as it says.
 pub(crate) fn header_right(numbers: &[u16], octets: &[u8]) -> bool
-    ensures { λ r. ⌜ Told (HeaderRight (tableIn (now (numbers .entry)) (now (octets .entry)))) r ⌝ }
+    ensures { Told (HeaderRight (table_in numbers.now octets.now)) result }
 {
     if !has(numbers, octets, 6) {
         return false;
@@ -67,8 +63,8 @@ pub(crate) fn row_right(
     n: usize,
     values: &[u8],
 ) -> bool
-    requires { ⌜ (now types ≡ facts) × HasCell (tableIn (now numbers) (now octets)) n ⌝ }
-    ensures { λ r. ⌜ Told (RowRight (tableIn (now (numbers .entry)) (now (octets .entry))) (now (values .entry)) n) r ⌝ }
+    requires { (types.now ≡ facts) × HasCell (table_in numbers.now octets.now) n }
+    ensures { Told (RowRight (table_in numbers.now octets.now) values.now n) result }
 {
     let at = 6 + 6 * n;
     if number(numbers, octets, at + 5) != 0 {
@@ -91,8 +87,8 @@ pub(crate) fn row_right(
 // From the innermost open group up, the first that does not stand after the parent. Who climbs past a group closes it, so that all rows together climb no
 // more steps than there are groups.
 pub(crate) fn climb(numbers: &[u16], octets: &[u8], inner: usize, parent: usize) -> usize
-    requires { ⌜ Climbs (tableIn (now numbers) (now octets)) inner ⌝ }
-    ensures { λ r. ⌜ Climbed (tableIn (now (numbers .entry)) (now (octets .entry))) inner parent r ⌝ }
+    requires { Climbs (table_in numbers.now octets.now) inner }
+    ensures { Climbed (table_in numbers.now octets.now) inner parent result }
 {
     let mut a = inner;
     while parent < a {
@@ -109,8 +105,8 @@ pub(crate) fn opened(
     n: usize,
     parent: usize,
 ) -> usize
-    requires { ⌜ (now types ≡ facts) × HasCell (tableIn (now numbers) (now octets)) n ⌝ }
-    ensures { λ r. ⌜ r ≡ opened (tableIn (now (numbers .entry)) (now (octets .entry))) n parent ⌝ }
+    requires { (types.now ≡ facts) × HasCell (table_in numbers.now octets.now) n }
+    ensures { result ≡ opened (table_in numbers.now octets.now) n parent }
 {
     let typ = number(numbers, octets, 7 + 6 * n);
     if emitting::is_group(types, typ as u16) {
@@ -127,8 +123,8 @@ pub(crate) fn rows_right(
     count: usize,
     values: &[u8],
 ) -> bool
-    requires { ⌜ (now types ≡ facts) × HasCells (tableIn (now numbers) (now octets)) count ⌝ }
-    ensures { λ r. ⌜ Told (RowsRight (tableIn (now (numbers .entry)) (now (octets .entry))) (now (values .entry)) count) r ⌝ }
+    requires { (types.now ≡ facts) × HasCells (table_in numbers.now octets.now) count }
+    ensures { Told (RowsRight (table_in numbers.now octets.now) values.now count) result }
 {
     let mut inner = 0usize;
     let mut n = 0;
@@ -148,7 +144,7 @@ pub(crate) fn rows_right(
 
 // Does no reason of 14 hold?
 pub fn right(sequence: u32, numbers: &[u16], octets: &[u8], values: &[u8]) -> bool
-    ensures { λ r. ⌜ Told (NoReason sequence (tableIn (now (numbers .entry)) (now (octets .entry))) (now (values .entry))) r ⌝ }
+    ensures { Told (NoReason sequence (table_in numbers.now octets.now) values.now) result }
 {
     if 16777215 < sequence {
         return false;
@@ -163,8 +159,8 @@ pub fn right(sequence: u32, numbers: &[u16], octets: &[u8], values: &[u8]) -> bo
 
 // The first `count` numbers after the header of a table of octets.
 pub fn copy_rows(table: &[u8], count: usize, rows: &mut [u16])
-    requires { ⌜ Copies count (tableIn [] (now table)) (now rows) ⌝ }
-    ensures { λ _. ⌜ Copied count (tableIn [] (now (table .entry))) (now (rows .entry)) (now (rows .exit)) ⌝ }
+    requires { Copies count (table_in [] table.now) rows.old }
+    ensures { Copied count (table_in [] table.now) rows.old rows.new }
 {
     let mut j = 0;
     while j < count {

@@ -1,15 +1,14 @@
 // The header of a message: checks 1 to 8 with 21, where the elements begin, and the level that they are read by. The checks ask for a message's first
 // four octets and its length and no more, so that it does not matter whether the rest is at hand. These are no entry points: a function
 // here may ask for what its callers show.
-ghost use mathlib.Core.Path.{_≡_};
-ghost use mathlib.Core.Bool.{Bool·beq};
-ghost use Prim.Native.Nat.{_<_, _≤_};
-ghost use lib.ListN.{length, getD};
-ghost use Rattle·rules.specs.Framing.{version, flagP, flagT};
-ghost use Rattle·rules.specs.Types.{among};
-ghost use Rattle·rules.specs.Listings.{book, noMessage, messageOf};
-ghost use Rattle·rules.specs.Verdicts.{first, openingChecks};
-ghost use Rattle·heading·specs.specs.Header.{Opens, Sought, Sent, Known, Typed, Field, Start, Listed, Body, HeaderOf};
+ghost use Rattle.std.specs.Prelude.{◌≡◌, ◌<◌, ◌≤◌, length, get_or};
+ghost use Rattle.std.specs.Bool.{beq};
+ghost use Rattle.rules.specs.Framing.{version, flag_p, flag_t};
+ghost use Rattle.rules.specs.Types.{among};
+ghost use Rattle.rules.specs.Listings.{book, no_message, message_of};
+ghost use Rattle.rules.specs.Verdicts.{first, opening_checks};
+ghost use Rattle.heading.specs.Header.{Opens, Sought, Sent, Known, Typed, Field, Start, Listed, Body, HeaderOf};
+
 use rules::Verdict;
 
 // The message types, which of them have T = 1, which are sent on kinds 1 to 3, which on kind 4, and the level of each body.
@@ -36,7 +35,7 @@ const BODIES: [u8; 10] = [1, 1, 2, 5, 6, 9, 12, 13, 14, 16];
 
 // Is it one of the kinds?
 pub fn known(kind: u32) -> bool
-    ensures { λ r. ⌜ r ≡ among kind (book .kinds) ⌝ }
+    ensures { result ≡ among kind book.kinds }
 {
     if kind == 1 {
         return true;
@@ -51,37 +50,37 @@ pub fn known(kind: u32) -> bool
 }
 
 pub(crate) fn version(head: &[u8]) -> u8
-    requires { ⌜ 0 < length (now head) ⌝ }
-    ensures { λ r. ⌜ r ≡ version (now (head .entry)) ⌝ }
+    requires { 0 < length head.now }
+    ensures { result ≡ version head.now }
 {
     head[0] / 32
 }
 
 pub(crate) fn flag_p(head: &[u8]) -> bool
-    requires { ⌜ 0 < length (now head) ⌝ }
-    ensures { λ r. ⌜ r ≡ flagP (now (head .entry)) ⌝ }
+    requires { 0 < length head.now }
+    ensures { result ≡ flag_p head.now }
 {
     head[0] / 16 % 2 == 1
 }
 
 pub(crate) fn flag_t(head: &[u8]) -> bool
-    requires { ⌜ 0 < length (now head) ⌝ }
-    ensures { λ r. ⌜ r ≡ flagT (now (head .entry)) ⌝ }
+    requires { 0 < length head.now }
+    ensures { result ≡ flag_t head.now }
 {
     head[0] / 8 % 2 == 1
 }
 
 pub fn length_field(head: &[u8]) -> usize
-    requires { ⌜ 4 ≤ length (now head) ⌝ }
-    ensures { λ r. ⌜ Field (now (head .entry)) r ⌝ }
+    requires { 4 ≤ length head.now }
+    ensures { Field head.now result }
 {
     head[2] as usize * 256 + head[3] as usize
 }
 
 // Where the elements begin.
 pub fn start(head: &[u8]) -> usize
-    requires { ⌜ 0 < length (now head) ⌝ }
-    ensures { λ r. ⌜ Start (now (head .entry)) r ⌝ }
+    requires { 0 < length head.now }
+    ensures { Start head.now result }
 {
     if flag_t(head) {
         return 12;
@@ -91,7 +90,7 @@ pub fn start(head: &[u8]) -> usize
 
 // The number of the message type among those listed, or how many there are.
 pub(crate) fn seek(typ: u8) -> usize
-    ensures { λ r. ⌜ Sought typ r ⌝ }
+    ensures { Sought typ result }
 {
     let types = TYPES;
     let mut n = 0;
@@ -106,8 +105,8 @@ pub(crate) fn seek(typ: u8) -> usize
 
 // Is the message type of number `n` sent on this kind?
 pub(crate) fn right_kind(kind: u32, n: usize) -> bool
-    requires { ⌜ Sent kind n ⌝ }
-    ensures { λ r. ⌜ r ≡ among kind (getD (book .messages) n noMessage .kinds) ⌝ }
+    requires { Sent kind n }
+    ensures { result ≡ among kind (get_or book.messages n no_message).kinds }
 {
     if kind == 4 {
         return MMES[n];
@@ -117,8 +116,8 @@ pub(crate) fn right_kind(kind: u32, n: usize) -> bool
 
 // Does T stand as the message type of number `n` has it?
 pub(crate) fn right_t(head: &[u8], n: usize) -> bool
-    requires { ⌜ Typed (now head) n ⌝ }
-    ensures { λ r. ⌜ r ≡ Bool·beq (flagT (now (head .entry))) (getD (book .messages) n noMessage .teid) ⌝ }
+    requires { Typed head.now n }
+    ensures { result ≡ beq (flag_t head.now) (get_or book.messages n no_message).teid }
 {
     if flag_t(head) {
         return TEIDS[n];
@@ -128,8 +127,8 @@ pub(crate) fn right_t(head: &[u8], n: usize) -> bool
 
 // The level of a message's body.
 pub fn body(head: &[u8]) -> u8
-    requires { ⌜ Listed (now head) ⌝ }
-    ensures { λ r. ⌜ Body (now (head .entry)) r ⌝ }
+    requires { Listed head.now }
+    ensures { Body head.now result }
 {
     let n = seek(head[1]);
     BODIES[n]
@@ -137,7 +136,7 @@ pub fn body(head: &[u8]) -> u8
 
 // The length of the header of messages of a type, or 0 if the type is not listed.
 pub fn header_of(typ: u32) -> usize
-    ensures { λ r. ⌜ HeaderOf typ r ⌝ }
+    ensures { HeaderOf typ result }
 {
     if 255 < typ {
         return 0;
@@ -154,16 +153,16 @@ pub fn header_of(typ: u32) -> usize
 
 // Is a message of a type that is listed sent on this kind?
 pub fn sent_on(kind: u32, typ: u32) -> bool
-    requires { ⌜ Known kind typ ⌝ }
-    ensures { λ r. ⌜ r ≡ among kind (messageOf book typ .kinds) ⌝ }
+    requires { Known kind typ }
+    ensures { result ≡ among kind (message_of book typ).kinds }
 {
     right_kind(kind, seek(typ as u8))
 }
 
 // Checks 1 to 8, with 21 after 7, in order, of a message of `n` octets that begins with `head`.
 pub fn opening(kind: u32, head: &[u8], n: usize) -> Verdict
-    requires { ⌜ Opens (now head) n ⌝ }
-    ensures { λ r. ⌜ r ≡ first (openingChecks book kind (now (head .entry)) n) ⌝ }
+    requires { Opens head.now n }
+    ensures { result ≡ first (opening_checks book kind head.now n) }
 {
     if !known(kind) {
         return answers::refuse(1, 0);

@@ -1,19 +1,16 @@
 // What is made of a reading: the verdict by checks 1 to 12 for a table of some room, and the table.
-ghost use mathlib.Core.Path.{_≡_};
-ghost use mathlib.Core.List.{[], _∷_, _++_};
-ghost use Prim.Native.Nat.{_+_, _≤_};
-ghost use lib.ListN.{length, drop};
-ghost use lib.Seq.{paste};
-ghost use Rattle·rules.specs.Sizes.{largestMessage, used};
-ghost use Rattle·rules.specs.Table.{numbersBy, laid};
-ghost use Rattle·judging·specs.specs.Judging.{given, Writable};
-use rules::Reading;
-use rules::Verdict;
+ghost use Rattle.std.specs.Prelude.{◌≡◌, [], ◌∷◌, ◌++◌, ◌+◌, ◌≤◌, length, drop};
+ghost use Rattle.std.proofs.Math.Seq.{paste};
+ghost use Rattle.rules.specs.Sizes.{largest_message, used};
+ghost use Rattle.rules.specs.Table.{numbers_by, laid};
+ghost use Rattle.judging.specs.Judging.{given, Writable};
+
+use rules::{Reading, Verdict};
 
 // The verdict on a reading, for a table of `room` numbers.
 pub fn verdict_on(r: Reading, room: usize) -> Verdict
-    requires { ⌜ r .rows ≤ largestMessage ⌝ }
-    ensures { λ v. ⌜ v ≡ given r room ⌝ }
+    requires { r.rows ≤ largest_message }
+    ensures { result ≡ given r room }
 {
     let refusal = r.refusal;
     if refusal.code != 0 {
@@ -27,8 +24,8 @@ pub fn verdict_on(r: Reading, room: usize) -> Verdict
 
 // The header: rows, kept rows, place of the first row, numbers used, message type, kind.
 pub fn write_header(n: usize, kept: usize, typ: u16, kind: u16, table: &mut [u16])
-    requires { ⌜ (n ≤ largestMessage) × (kept ≤ n) × (6 ≤ length (now table)) ⌝ }
-    ensures { λ _. ⌜ now (table .exit) ≡ (n ∷ kept ∷ 6 ∷ used n ∷ typ ∷ kind ∷ []) ++ drop 6 (now (table .entry)) ⌝ }
+    requires { (n ≤ largest_message) × (kept ≤ n) × (6 ≤ length table.old) }
+    ensures { table.new ≡ (n ∷ kept ∷ 6 ∷ used n ∷ typ ∷ kind ∷ []) ++ drop 6 table.old }
 {
     table[0] = n as u16;
     table[1] = kept as u16;
@@ -40,8 +37,8 @@ pub fn write_header(n: usize, kept: usize, typ: u16, kind: u16, table: &mut [u16
 
 // The first `count` numbers of `rows`, after the header.
 fn copy_rows(rows: &[u16], count: usize, table: &mut [u16])
-    requires { ⌜ (count ≤ length (now rows)) × (6 + count ≤ length (now table)) ⌝ }
-    ensures { λ _. ⌜ now (table .exit) ≡ paste (now (table .entry)) 6 (now (rows .entry)) count ⌝ }
+    requires { (count ≤ length rows.now) × (6 + count ≤ length table.old) }
+    ensures { table.new ≡ paste table.old 6 rows.now count }
 {
     let mut i = 0;
     while i < count {
@@ -52,8 +49,8 @@ fn copy_rows(rows: &[u16], count: usize, table: &mut [u16])
 
 // Header and rows.
 pub fn write_table(rows: &[u16], n: usize, kept: usize, typ: u16, kind: u16, table: &mut [u16])
-    requires { ⌜ Writable n kept (now rows) (now table) ⌝ }
-    ensures { λ _. ⌜ now (table .exit) ≡ laid (numbersBy n kept typ kind (now (rows .entry))) (now (table .entry)) ⌝ }
+    requires { Writable n kept rows.now table.old }
+    ensures { table.new ≡ laid (numbers_by n kept typ kind rows.now) table.old }
 {
     write_header(n, kept, typ, kind, table);
     copy_rows(rows, 6 * n, table);

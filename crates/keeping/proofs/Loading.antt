@@ -1,18 +1,18 @@
 -- A number's octets as they are loaded. Assumes nothing.
---     quad-read, eight-read   four octets, and four more after them
-use mathlib.Core.Path.{_≡_, ap}
+--     quad_read, eight_read   four octets, and four more after them
+use mathlib.Core.Path.{◌≡◌, ap}
 use mathlib.Core.List.{List}
-use Prim.Native.Nat.{ℕ, suc, _+_, _*_}
+use Prim.Native.Nat.{ℕ, suc, ◌+◌, ◌*◌}
 use native.Mathlib.Omega.{arith}
-use lib.ListN.{getD}
-use Rattle·keeping·specs.specs.Kept.{numberOn, numberOf, numberAt, run}
-use Rattle·keeping·proofs.proofs.Storing.{run-four}
+use lib.ListN.{get_or}
+use Rattle.keeping.specs.Kept.{number_on, number_of, number_at, run}
+use Rattle.keeping.proofs.Storing.{run-four}
 
 module _ (s : List ℕ) (n : ℕ) where
-  pub quad-read : ((getD s n 0 * 256 + getD s (n + 1) 0) * 256 + getD s (n + 2) 0) * 256 + getD s (n + 3) 0 ≡ numberOf (run 4 s n)
-  unfolding numberOf numberOn
-  quad-read = ap numberOf (run-four s n)
+  pub quad_read : ((get_or s n 0 * 256 + get_or s (n + 1) 0) * 256 + get_or s (n + 2) 0) * 256 + get_or s (n + 3) 0 ≡ number_of (run 4 s n)
+  unfolding number_of number_on
+  quad_read = ap number_of (run-four s n)
 
-  pub eight-read : {h l : ℕ} → h ≡ numberOf (run 4 s n) → l ≡ numberOf (run 4 s (n + 4)) → h * 4294967296 + l ≡ numberAt s n
-  unfolding numberOf numberOn run
-  eight-read h l = let e : n + 4 ≡ suc (suc (suc (suc n))) = omega arith in rw (h, l, e) (omega arith)
+  pub eight_read : {h l : ℕ} → h ≡ number_of (run 4 s n) → l ≡ number_of (run 4 s (n + 4)) → h * 4294967296 + l ≡ number_at s n
+  unfolding number_of number_on run
+  eight_read h l = let e : n + 4 ≡ suc (suc (suc (suc n))) = omega arith in rw (h, l, e) (omega arith)

@@ -1,13 +1,9 @@
 // A state of the pieces form as octets that a caller keeps: each part of it at a place of its own, numbers high octet first.
-ghost use mathlib.Core.Path.{_≡_};
-ghost use mathlib.Core.List.{[], _∷_};
-ghost use Prim.Native.Nat.{_+_, _≤_};
-ghost use lib.ListN.{length};
-ghost use lib.Seq.{sets};
-ghost use Rattle·keeping·specs.specs.Kept.{stateSize, flagOf, eightOf, run, numberOf, numberAt, Read, openOctets, startOctets, countsOctets, walkOctets, watchOctets, openAt, countsAt, walkIn, fieldsIn, keptIn, stateIn};
-use pieces::Going;
-use pieces::Open;
-use pieces::Pieces;
+ghost use Rattle.std.specs.Prelude.{◌≡◌, [], ◌∷◌, ◌+◌, ◌≤◌, length};
+ghost use Rattle.std.proofs.lemmas.List.Edits.{sets};
+ghost use Rattle.keeping.specs.Kept.{state_size, flag_of, eight_of, run, number_of, number_at, Read, open_octets, start_octets, counts_octets, walk_octets, watch_octets, open_at, counts_at, walk_in, fields_in, kept_in, state_in};
+
+use pieces::{Going, Open, Pieces};
 use taking::Counts;
 
 // How many octets a state has.
@@ -16,7 +12,7 @@ pub const SIZE: usize = 306;
 // ---- a state into octets
 
 fn flag(b: bool) -> u8
-    ensures { λ r. ⌜ r ≡ flagOf b ⌝ }
+    ensures { result ≡ flag_of b }
 {
     if b {
         return 1;
@@ -25,15 +21,15 @@ fn flag(b: bool) -> u8
 }
 
 fn put_one(v: u8, at: usize, out: &mut [u8])
-    requires { ⌜ at + 1 ≤ length (now out) ⌝ }
-    ensures { λ _. ⌜ now (out .exit) ≡ sets (now (out .entry)) at (v ∷ []) ⌝ }
+    requires { at + 1 ≤ length out.old }
+    ensures { out.new ≡ sets out.old at (v ∷ []) }
 {
     out[at] = v;
 }
 
 fn put_four(v: [u8; 4], at: usize, out: &mut [u8])
-    requires { ⌜ at + 4 ≤ length (now out) ⌝ }
-    ensures { λ _. ⌜ now (out .exit) ≡ sets (now (out .entry)) at (run 4 v 0) ⌝ }
+    requires { at + 4 ≤ length out.old }
+    ensures { out.new ≡ sets out.old at (run 4 v 0) }
 {
     out[at] = v[0];
     out[at + 1] = v[1];
@@ -42,8 +38,8 @@ fn put_four(v: [u8; 4], at: usize, out: &mut [u8])
 }
 
 fn put_number(v: usize, at: usize, out: &mut [u8])
-    requires { ⌜ at + 8 ≤ length (now out) ⌝ }
-    ensures { λ _. ⌜ now (out .exit) ≡ sets (now (out .entry)) at (eightOf v) ⌝ }
+    requires { at + 8 ≤ length out.old }
+    ensures { out.new ≡ sets out.old at (eight_of v) }
 {
     let high = [
         (v / 72057594037927936) as u8,
@@ -62,8 +58,8 @@ fn put_number(v: usize, at: usize, out: &mut [u8])
 }
 
 fn put_marks(marks: &[u8; 32], at: usize, out: &mut [u8])
-    requires { ⌜ at + 32 ≤ length (now out) ⌝ }
-    ensures { λ _. ⌜ now (out .exit) ≡ sets (now (out .entry)) at (run 32 (now (marks .entry)) 0) ⌝ }
+    requires { at + 32 ≤ length out.old }
+    ensures { out.new ≡ sets out.old at (run 32 marks.now 0) }
 {
     let mut i = 0;
     while i < 32 {
@@ -73,8 +69,8 @@ fn put_marks(marks: &[u8; 32], at: usize, out: &mut [u8])
 }
 
 fn put_open(o: Open, at: usize, out: &mut [u8])
-    requires { ⌜ at + 57 ≤ length (now out) ⌝ }
-    ensures { λ _. ⌜ now (out .exit) ≡ sets (now (out .entry)) at (openOctets o) ⌝ }
+    requires { at + 57 ≤ length out.old }
+    ensures { out.new ≡ sets out.old at (open_octets o) }
 {
     let marks = o.marks;
     put_one(o.level, at, out);
@@ -86,8 +82,8 @@ fn put_open(o: Open, at: usize, out: &mut [u8])
 
 // Kind, room, ended, count, head.
 fn put_start(p: Pieces, out: &mut [u8])
-    requires { ⌜ stateSize ≤ length (now out) ⌝ }
-    ensures { λ _. ⌜ now (out .exit) ≡ sets (now (out .entry)) 0 (startOctets p) ⌝ }
+    requires { state_size ≤ length out.old }
+    ensures { out.new ≡ sets out.old 0 (start_octets p) }
 {
     let head = p.head;
     let kind = [
@@ -104,8 +100,8 @@ fn put_start(p: Pieces, out: &mut [u8])
 }
 
 fn put_counts(c: Counts, at: usize, out: &mut [u8])
-    requires { ⌜ at + 32 ≤ length (now out) ⌝ }
-    ensures { λ _. ⌜ now (out .exit) ≡ sets (now (out .entry)) at (countsOctets c) ⌝ }
+    requires { at + 32 ≤ length out.old }
+    ensures { out.new ≡ sets out.old at (counts_octets c) }
 {
     put_number(c.rows, at, out);
     put_number(c.kept, at + 8, out);
@@ -115,8 +111,8 @@ fn put_counts(c: Counts, at: usize, out: &mut [u8])
 
 // Stopped, depth, place, have, some, pass, and the counts.
 fn put_walk(w: Going, out: &mut [u8])
-    requires { ⌜ stateSize ≤ length (now out) ⌝ }
-    ensures { λ _. ⌜ now (out .exit) ≡ sets (now (out .entry)) 25 (walkOctets w) ⌝ }
+    requires { state_size ≤ length out.old }
+    ensures { out.new ≡ sets out.old 25 (walk_octets w) }
 {
     let some = w.some;
     let counts = w.counts;
@@ -131,8 +127,8 @@ fn put_walk(w: Going, out: &mut [u8])
 
 // Limited, the APNs so far, and the counts to go back to.
 fn put_watch(w: Going, out: &mut [u8])
-    requires { ⌜ stateSize ≤ length (now out) ⌝ }
-    ensures { λ _. ⌜ now (out .exit) ≡ sets (now (out .entry)) 94 (watchOctets w) ⌝ }
+    requires { state_size ≤ length out.old }
+    ensures { out.new ≡ sets out.old 94 (watch_octets w) }
 {
     let back = w.back;
     put_one(flag(w.limited), 94, out);
@@ -142,7 +138,7 @@ fn put_watch(w: Going, out: &mut [u8])
 
 // A buffer that is too short is left alone.
 pub fn keep(p: Pieces, state: &mut [u8])
-    ensures { λ _. ⌜ now (state .exit) ≡ keptIn p (now (state .entry)) ⌝ }
+    ensures { state.new ≡ kept_in p state.old }
 {
     if state.len() < SIZE {
         return;
@@ -162,21 +158,21 @@ pub fn keep(p: Pieces, state: &mut [u8])
 // ---- octets into a state
 
 fn wide(x: u8) -> usize
-    ensures { λ r. ⌜ Read x r 256 ⌝ }
+    ensures { Read x result 256 }
 {
     x as usize
 }
 
 fn four_at(s: &[u8], at: usize) -> [u8; 4]
-    requires { ⌜ at + 4 ≤ length (now s) ⌝ }
-    ensures { λ r. ⌜ r ≡ run 4 (now (s .entry)) at ⌝ }
+    requires { at + 4 ≤ length s.now }
+    ensures { result ≡ run 4 s.now at }
 {
     [s[at], s[at + 1], s[at + 2], s[at + 3]]
 }
 
 fn marks_at(s: &[u8], at: usize) -> [u8; 32]
-    requires { ⌜ at + 32 ≤ length (now s) ⌝ }
-    ensures { λ r. ⌜ r ≡ run 32 (now (s .entry)) at ⌝ }
+    requires { at + 32 ≤ length s.now }
+    ensures { result ≡ run 32 s.now at }
 {
     let mut marks = [0u8; 32];
     let mut i = 0;
@@ -188,8 +184,8 @@ fn marks_at(s: &[u8], at: usize) -> [u8; 32]
 }
 
 fn quad_at(s: &[u8], at: usize) -> usize
-    requires { ⌜ at + 4 ≤ length (now s) ⌝ }
-    ensures { λ r. ⌜ Read (numberOf (run 4 (now (s .entry)) at)) r 4294967296 ⌝ }
+    requires { at + 4 ≤ length s.now }
+    ensures { Read (number_of (run 4 s.now at)) result 4294967296 }
 {
     let a = wide(s[at]);
     let b = wide(s[at + 1]);
@@ -199,8 +195,8 @@ fn quad_at(s: &[u8], at: usize) -> usize
 }
 
 fn number_at(s: &[u8], at: usize) -> usize
-    requires { ⌜ at + 8 ≤ length (now s) ⌝ }
-    ensures { λ r. ⌜ r ≡ numberAt (now (s .entry)) at ⌝ }
+    requires { at + 8 ≤ length s.now }
+    ensures { result ≡ number_at s.now at }
 {
     let high = quad_at(s, at);
     let low = quad_at(s, at + 4);
@@ -208,8 +204,8 @@ fn number_at(s: &[u8], at: usize) -> usize
 }
 
 fn open_at(s: &[u8], at: usize) -> Open
-    requires { ⌜ at + 57 ≤ length (now s) ⌝ }
-    ensures { λ r. ⌜ r ≡ openAt (now (s .entry)) at ⌝ }
+    requires { at + 57 ≤ length s.now }
+    ensures { result ≡ open_at s.now at }
 {
     let marks = marks_at(s, at + 1);
     Open {
@@ -222,8 +218,8 @@ fn open_at(s: &[u8], at: usize) -> Open
 }
 
 fn counts_at(s: &[u8], at: usize) -> Counts
-    requires { ⌜ at + 32 ≤ length (now s) ⌝ }
-    ensures { λ r. ⌜ r ≡ countsAt (now (s .entry)) at ⌝ }
+    requires { at + 32 ≤ length s.now }
+    ensures { result ≡ counts_at s.now at }
 {
     Counts {
         rows: number_at(s, at),
@@ -234,8 +230,8 @@ fn counts_at(s: &[u8], at: usize) -> Counts
 }
 
 fn walk_in(s: &[u8]) -> Going
-    requires { ⌜ stateSize ≤ length (now s) ⌝ }
-    ensures { λ r. ⌜ r ≡ walkIn (now (s .entry)) ⌝ }
+    requires { state_size ≤ length s.now }
+    ensures { result ≡ walk_in s.now }
 {
     let outer = open_at(s, 135);
     let inner = open_at(s, 192);
@@ -260,8 +256,8 @@ fn walk_in(s: &[u8]) -> Going
 }
 
 fn fields_in(s: &[u8]) -> Pieces
-    requires { ⌜ stateSize ≤ length (now s) ⌝ }
-    ensures { λ r. ⌜ r ≡ fieldsIn (now (s .entry)) ⌝ }
+    requires { state_size ≤ length s.now }
+    ensures { result ≡ fields_in s.now }
 {
     let head = four_at(s, 21);
     let going = walk_in(s);
@@ -277,7 +273,7 @@ fn fields_in(s: &[u8]) -> Pieces
 
 // A buffer that is too short is read as zeros.
 pub fn kept(state: &[u8]) -> Pieces
-    ensures { λ r. ⌜ r ≡ stateIn (now (state .entry)) ⌝ }
+    ensures { result ≡ state_in state.now }
 {
     if state.len() < SIZE {
         let zeros = [0u8; SIZE];

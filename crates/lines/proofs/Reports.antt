@@ -1,95 +1,95 @@
 -- The text on a message is the refusal's line, or the counts and the rows' lines; and an input is a kind and a message. Assumes nothing.
---     reported-refused, reported-accepted   by the call's verdict, table and all
---     list-puts                             the counts and the rows of a table
+--     reported_refused, reported_accepted   by the call's verdict, table and all
+--     list_puts                             the counts and the rows of a table
 --     written                               what is put from the start is what Written says
-use mathlib.Core.Path.{_≡_, refl, sym, ap, _∙_}
+use mathlib.Core.Path.{◌≡◌, refl, sym, ap, ◌∙◌}
 use mathlib.Core.Bool.{false}
-use mathlib.Core.List.{List, [], _∷_, _++_}
-use Prim.Native.Nat.{ℕ, _-_, _≤_}
+use mathlib.Core.List.{List, [], ◌∷◌, ◌++◌}
+use Prim.Native.Nat.{ℕ, ◌-◌, ◌≤◌}
 use native.Mathlib.Omega.{arith}
-use lib.ListN.{length, take, drop, getD, length-append, length-drop}
-use lib.Seq.{take-all}
-use Rattle·rules.specs.Framing.{messageType}
-use Rattle·rules.specs.Listings.{book}
-use Rattle·rules.specs.Table.{rowsOf, keptRows, header, tableOf, laid}
-use Rattle·rules.specs.Verdicts.{refuses, items, callVerdict, callTable}
-use Rattle·rules.specs.Octets.{five}
-use Rattle·rules.specs.Program.{blanked, rowLines, acceptWord, refuseWord, textOf, inputKind, inputMessage, Written}
-use Rattle·rules.specs.Answers.{Called}
-use Rattle·rules.specs.declared.Verdict.{Verdict}
-use Rattle·rules.proofs.Rows.{rows-length}
-use Rattle·answers.proofs.Refusing.{refusing}
-use Rattle·wording.specs.Puts.{Puts}
-use Rattle·wording.proofs.Puts.{then-puts, puts-start, puts-same}
-use Rattle·lines·specs.specs.Lines.{linesFrom, Lists, listText, Reported}
-use Rattle·lines·proofs.proofs.Lines.{lines-are}
+use lib.ListN.{length, take, drop, get_or, length-append, length-drop}
+use lib.Seq.{take_all}
+use Rattle.rules.specs.Framing.{message_type}
+use Rattle.rules.specs.Listings.{book}
+use Rattle.rules.specs.Table.{rows_of, kept_rows, header, table_of, laid}
+use Rattle.rules.specs.Verdicts.{refuses, items, call_verdict, call_table}
+use Rattle.rules.specs.Octets.{five}
+use Rattle.rules.specs.Program.{blanked, row_lines, accept_word, refuse_word, text_of, input_kind, input_message, Written}
+use Rattle.rules.specs.Answers.{Called}
+use Rattle.rules.specs.declared.Verdict.{Verdict}
+use Rattle.rules.proofs.Rows.{rows-length}
+use Rattle.answers.proofs.Refusing.{refusing}
+use Rattle.wording.specs.Puts.{Puts}
+use Rattle.wording.proofs.Puts.{then-puts, puts-start, puts-same}
+use Rattle.lines.specs.Lines.{lines_from, Lists, list_text, Reported}
+use Rattle.lines.proofs.Lines.{lines_are}
 
 -- ---- by a table
 
-pub list-puts : (table : List ℕ) → {out out₁ out₂ : List ℕ} {at₁ r : ℕ} → Puts (acceptWord ++ blanked (getD table 0 0 ∷ getD table 1 0 ∷ [])) 0 out at₁ out₁
-    → Puts (linesFrom (take (length table - 6) (drop 6 table)) 0 (getD table 0 0)) at₁ out₁ r out₂ → Puts (listText table) 0 out r out₂
-unfolding listText
-list-puts table p q = then-puts p (rw (take-all (length table - 6) (drop 6 table) (omega (arith, length-drop 6 table))) at q)
+pub list_puts : (table : List ℕ) → {out out₁ out₂ : List ℕ} {at₁ r : ℕ} → Puts (accept_word ++ blanked (get_or table 0 0 ∷ get_or table 1 0 ∷ [])) 0 out at₁ out₁
+    → Puts (lines_from (take (length table - 6) (drop 6 table)) 0 (get_or table 0 0)) at₁ out₁ r out₂ → Puts (list_text table) 0 out r out₂
+unfolding list_text
+list_puts table p q = then-puts p (rw (take_all (length table - 6) (drop 6 table) (omega (arith, length-drop 6 table))) at q)
 
 -- ---- by the one call, with a table and a copy that are large enough for any message
 
 module _ (k : ℕ) (m out : List ℕ) {table₀ copy₀ : List ℕ} {v : Verdict} {table copy : List ℕ} (x : Called k m table₀ copy₀ v table copy)
     (t : 6138 ≡ length table₀) (c : 4096 ≡ length copy₀) where
-  verdict-is : v ≡ callVerdict book k m 4096 6138
-  verdict-is = rw (t, c) (x .answers)
+  verdict_is : v ≡ call_verdict book k m 4096 6138
+  verdict_is = rw (t, c) x.answers
 
-  pub reported-refused : {r : ℕ} {out′ : List ℕ} → (v .code ≡ 0 → ⊥) → Puts (refuseWord ++ blanked (five v)) 0 out r out′ → Reported k m out r out′
-  unfolding textOf
-  reported-refused n p = rw (← verdict-is, refusing v n) p
+  pub reported_refused : {r : ℕ} {out' : List ℕ} → (v.code ≡ 0 → ⊥) → Puts (refuse_word ++ blanked (five v)) 0 out r out' → Reported k m out r out'
+  unfolding text_of
+  reported_refused n p = rw (← verdict_is, refusing v n) p
 
-  module _ (ok : v .code ≡ 0) where
-    accepts : refuses (callVerdict book k m 4096 6138) ≡ false
-    accepts = rw (← verdict-is, ok)
+  module _ (ok : v.code ≡ 0) where
+    accepts : refuses (call_verdict book k m 4096 6138) ≡ false
+    accepts = rw (← verdict_is, ok)
 
     -- the numbers of the rows stand at the table's start
-    table-is : table ≡ laid (tableOf (messageType m) k (items book k m)) table₀
-    unfolding callTable
-    table-is = x .table-left ∙ rw (← t, ← c, accepts)
+    table_is : table ≡ laid (table_of (message_type m) k (items book k m)) table₀
+    unfolding call_table
+    table_is = x.table_left ∙ rw (← t, ← c, accepts)
 
-    count-is : getD table 0 0 ≡ length (items book k m)
-    unfolding laid tableOf header
-    count-is = ap (λ (q : List ℕ). getD q 0 0) table-is
+    count_is : get_or table 0 0 ≡ length (items book k m)
+    unfolding laid table_of header
+    count_is = ap (λ (q : List ℕ). get_or q 0 0) table_is
 
-    kept-is : getD table 1 0 ≡ keptRows (items book k m)
-    unfolding laid tableOf header
-    kept-is = ap (λ (q : List ℕ). getD q 1 0) table-is
+    kept_is : get_or table 1 0 ≡ kept_rows (items book k m)
+    unfolding laid table_of header
+    kept_is = ap (λ (q : List ℕ). get_or q 1 0) table_is
 
     abbrev rest : List ℕ
-    rest = drop (length (tableOf (messageType m) k (items book k m))) table₀
+    rest = drop (length (table_of (message_type m) k (items book k m))) table₀
 
-    rows-are : drop 6 table ≡ rowsOf (items book k m) ++ rest
-    unfolding laid tableOf header
-    rows-are = ap (drop 6) table-is
+    rows_are : drop 6 table ≡ rows_of (items book k m) ++ rest
+    unfolding laid table_of header
+    rows_are = ap (drop 6) table_is
 
     pub lists : Lists table
-    unfolding laid tableOf header
+    unfolding laid table_of header
     lists =
         let n = rows-length (items book k m) in
         record {
-          headed = rw table-is (omega arith);
-          there = rw (count-is, table-is) (omega (arith, n, length-append (rowsOf (items book k m)) rest));
+          headed = rw table_is (omega arith);
+          there = rw (count_is, table_is) (omega (arith, n, length-append (rows_of (items book k m)) rest));
         }
 
-    pub reported-accepted : {r : ℕ} {out′ : List ℕ} → Puts (listText table) 0 out r out′ → Reported k m out r out′
-    unfolding textOf listText
-    reported-accepted p =
-        let l : linesFrom (drop 6 table) 0 (getD table 0 0) ≡ rowLines (items book k m) = ap (linesFrom (drop 6 table) 0) count-is ∙ lines-are (items book k m) (drop 6 table) rest rows-are in
-        rw (accepts, ← count-is, ← kept-is, ← l) p
+    pub reported_accepted : {r : ℕ} {out' : List ℕ} → Puts (list_text table) 0 out r out' → Reported k m out r out'
+    unfolding text_of list_text
+    reported_accepted p =
+        let l : lines_from (drop 6 table) 0 (get_or table 0 0) ≡ row_lines (items book k m) = ap (lines_from (drop 6 table) 0) count_is ∙ lines_are (items book k m) (drop 6 table) rest rows_are in
+        rw (accepts, ← count_is, ← kept_is, ← l) p
 
 -- ---- the input
 
-pub written : (input out : List ℕ) {r : ℕ} {out′ : List ℕ} → Reported (inputKind input) (inputMessage input) out r out′ → Written input out r out′
+pub written : (input out : List ℕ) {r : ℕ} {out' : List ℕ} → Reported (input_kind input) (input_message input) out r out' → Written input out r out'
 written input out p =
-    let s = puts-same p (puts-start (textOf book (inputKind input) (inputMessage input)) out) in record { answers = s .0; out-left = s .1 }
+    let s = puts-same p (puts-start (text_of book (input_kind input) (input_message input)) out) in record { answers = s.0; out_left = s.1 }
 
-pub no-input : (input : List ℕ) → length input ≡ 0 → (0 ≡ inputKind input) × (input ≡ inputMessage input)
-no-input [] e = (refl, refl)
-no-input (x ∷ input) e = absurd (omega arith)
+pub no_input : (input : List ℕ) → length input ≡ 0 → (0 ≡ input_kind input) × (input ≡ input_message input)
+no_input [] e = (refl, refl)
+no_input (x ∷ input) e = absurd (omega arith)
 
-pub short-input : (input : List ℕ) → length input ≤ 4098 → take (length input - 1) (drop 1 input) ≡ inputMessage input
-short-input input l = take-all (length input - 1) (drop 1 input) (omega (arith, length-drop 1 input)) ∙ sym (take-all 4097 (drop 1 input) (omega (arith, length-drop 1 input)))
+pub short_input : (input : List ℕ) → length input ≤ 4098 → take (length input - 1) (drop 1 input) ≡ input_message input
+short_input input l = take_all (length input - 1) (drop 1 input) (omega (arith, length-drop 1 input)) ∙ sym (take_all 4097 (drop 1 input) (omega (arith, length-drop 1 input)))

@@ -1,29 +1,27 @@
 -- The lines of a run of rows, and the text on a message as it is put. Assumes nothing.
-use Prim.Native.Nat.{ℕ, _*_, _≤_}
-use mathlib.Core.List.{List, [], _∷_, _++_}
-use lib.ListN.{length, take, drop, getD}
-use Rattle·rules.specs.Sizes.{headerNumbers, used}
-use Rattle·rules.specs.Listings.{book}
-use Rattle·rules.specs.Program.{blanked, line, acceptWord, textOf}
-use Rattle·wording.specs.Puts.{Puts}
-use Rattle·wording.specs.Pieces.{forEach}
+use Rattle.std.specs.Prelude.{ℕ, ◌*◌, ◌≤◌, List, [], ◌∷◌, ◌++◌, length, take, drop, get_or}
+use Rattle.rules.specs.Sizes.{header_numbers, used}
+use Rattle.rules.specs.Listings.{book}
+use Rattle.rules.specs.Program.{blanked, line, accept_word, text_of}
+use Rattle.wording.specs.Puts.{Puts}
+use Rattle.wording.specs.Pieces.{for_each}
 
 -- the six numbers of row i
-abbrev pub sixOf : List ℕ → ℕ → List ℕ
-sixOf rows i = take 6 (drop (6 * i) rows)
+abbrev pub six_of : List ℕ → ℕ → List ℕ
+six_of rows i = take 6 (drop (6 * i) rows)
 
 -- the lines of so many rows, from row i on
-abbrev pub linesFrom : List ℕ → ℕ → ℕ → List ℕ
-linesFrom rows i n = forEach (λ j. line (sixOf rows j)) i n
+abbrev pub lines_from : List ℕ → ℕ → ℕ → List ℕ
+lines_from rows i n = for_each (λ j. line (six_of rows j)) i n
 
 -- the table has its header, and the rows that it counts
 pub record Lists (table : List ℕ) : Type 0 where
-  pub headed : headerNumbers ≤ length table
-  pub there : used (getD table 0 0) ≤ length table
+  pub headed : header_numbers ≤ length table
+  pub there : used (get_or table 0 0) ≤ length table
 
 -- the counts and the rows of a table
-unfoldable pub listText : List ℕ → List ℕ
-listText table = acceptWord ++ blanked (getD table 0 0 ∷ getD table 1 0 ∷ []) ++ linesFrom (drop headerNumbers table) 0 (getD table 0 0)
+unfoldable pub list_text : List ℕ → List ℕ
+list_text table = accept_word ++ blanked (get_or table 0 0 ∷ get_or table 1 0 ∷ []) ++ lines_from (drop header_numbers table) 0 (get_or table 0 0)
 
 abbrev pub Reported : ℕ → List ℕ → List ℕ → ℕ → List ℕ → Type 0
-Reported k m out answer out′ = Puts (textOf book k m) 0 out answer out′
+Reported k m out answer out' = Puts (text_of book k m) 0 out answer out'

@@ -1,14 +1,12 @@
 // What the judge program writes: a line for a refusal, or a line of counts and a line a row.
-ghost use mathlib.Core.List.{_++_};
-ghost use Prim.Native.Nat.{_*_, _≤_, _<_};
-ghost use lib.ListN.{length};
-ghost use Rattle·rules.specs.Program.{blanked, line, Written};
-ghost use Rattle·wording.specs.Puts.{Puts};
-ghost use Rattle·lines·specs.specs.Lines.{linesFrom, Lists, listText, Reported};
+ghost use Rattle.std.specs.Prelude.{◌++◌, ◌*◌, ◌≤◌, ◌<◌, length};
+ghost use Rattle.rules.specs.Program.{blanked, line, Written};
+ghost use Rattle.wording.specs.Puts.{Puts};
+ghost use Rattle.lines.specs.Lines.{lines_from, Lists, list_text, Reported};
 
 // A blank before each number, and a newline.
 fn blanked(numbers: &[u16], at: usize, out: &mut [u8]) -> usize
-    ensures { λ r. ⌜ Puts (blanked (now (numbers .entry))) at (now (out .entry)) r (now (out .exit)) ⌝ }
+    ensures { Puts (blanked numbers.now) at out.old result out.new }
 {
     let mut to = at;
     let mut n = 0;
@@ -21,7 +19,7 @@ fn blanked(numbers: &[u16], at: usize, out: &mut [u8]) -> usize
 
 // A word and numbers.
 fn said(word: &[u8], numbers: &[u16], out: &mut [u8]) -> usize
-    ensures { λ r. ⌜ Puts (now (word .entry) ++ blanked (now (numbers .entry))) 0 (now (out .entry)) r (now (out .exit)) ⌝ }
+    ensures { Puts (word.now ++ blanked numbers.now) 0 out.old result out.new }
 {
     let after = wording::copy(word, 0, out);
     blanked(numbers, after, out)
@@ -29,8 +27,8 @@ fn said(word: &[u8], numbers: &[u16], out: &mut [u8]) -> usize
 
 // The numbers of a row.
 fn row_line(row: &[u16], at: usize, out: &mut [u8]) -> usize
-    requires { ⌜ 0 < length (now row) ⌝ }
-    ensures { λ r. ⌜ Puts (line (now (row .entry))) at (now (out .entry)) r (now (out .exit)) ⌝ }
+    requires { 0 < length row.now }
+    ensures { Puts (line row.now) at out.old result out.new }
 {
     let after = wording::number(row[0], at, out);
     blanked(&row[1..], after, out)
@@ -38,8 +36,8 @@ fn row_line(row: &[u16], at: usize, out: &mut [u8]) -> usize
 
 // A line for each of the first `count` rows.
 fn row_lines(rows: &[u16], count: usize, at: usize, out: &mut [u8]) -> usize
-    requires { ⌜ 6 * count ≤ length (now rows) ⌝ }
-    ensures { λ r. ⌜ Puts (linesFrom (now (rows .entry)) 0 count) at (now (out .entry)) r (now (out .exit)) ⌝ }
+    requires { 6 * count ≤ length rows.now }
+    ensures { Puts (lines_from rows.now 0 count) at out.old result out.new }
 {
     let mut to = at;
     let mut n = 0;
@@ -54,8 +52,8 @@ fn row_lines(rows: &[u16], count: usize, at: usize, out: &mut [u8]) -> usize
 
 // The text on an accepted message, by its table.
 fn listed(table: &[u16], out: &mut [u8]) -> usize
-    requires { ⌜ Lists (now table) ⌝ }
-    ensures { λ r. ⌜ Puts (listText (now (table .entry))) 0 (now (out .entry)) r (now (out .exit)) ⌝ }
+    requires { Lists table.now }
+    ensures { Puts (list_text table.now) 0 out.old result out.new }
 {
     let count = table[0];
     let kept = table[1];
@@ -65,7 +63,7 @@ fn listed(table: &[u16], out: &mut [u8]) -> usize
 
 // The text on a message.
 fn report(kind: u32, message: &[u8], out: &mut [u8]) -> usize
-    ensures { λ r. ⌜ Reported kind (now (message .entry)) (now (out .entry)) r (now (out .exit)) ⌝ }
+    ensures { Reported kind message.now out.old result out.new }
 {
     let mut table = scratch::table();
     let mut copy = scratch::page();
@@ -78,7 +76,7 @@ fn report(kind: u32, message: &[u8], out: &mut [u8]) -> usize
 
 // The text on an input: its first octet is the kind, and up to 4,097 more are the message.
 pub fn text(input: &[u8], out: &mut [u8]) -> usize
-    ensures { λ r. ⌜ Written (now (input .entry)) (now (out .entry)) r (now (out .exit)) ⌝ }
+    ensures { Written input.now out.old result out.new }
 {
     if input.len() == 0 {
         return report(0, input, out);

@@ -1,42 +1,42 @@
 -- Laws of where a value stands: case by case, that it lies in the buffer, and that it is what the rules say for a table's own count. Assumes nothing.
-use mathlib.Core.Path.{_≡_, refl}
-use mathlib.Core.Bool.{Bool, true, false, cond, _&&_}
+use mathlib.Core.Path.{◌≡◌, refl}
+use mathlib.Core.Bool.{Bool, true, false, cond, ◌&&◌}
 use mathlib.Core.List.{List}
-use Prim.Native.Nat.{ℕ, _+_, _≤_, _<_}
+use Prim.Native.Nat.{ℕ, ◌+◌, ◌≤◌, ◌<◌}
 use native.Mathlib.Omega.{arith}
-use borrow.Author.Tests.{lt-ltb, le-ltb, le-leb, lt-leb, eq-eqb, ne-eqb, leb-true, eqb-true}
+use borrow.Author.Tests.{lt-ltb, le-ltb, le-leb, lt-leb, eq-eqb, ne_eqb, leb-true, eqb-true}
 use lib.Dec.{ltb, leb, eqb}
 use lib.ListN.{length}
-use Rattle·rules.specs.declared.Span.{Span}
-use Rattle·rules.specs.Values.{tableRows, rowPlace, rowLength, nowhere, rowSpan, deskSpan, seekPlain, plainSpan}
-use Rattle·lookup·specs.specs.Lent.{spanBy, deskBy, Within}
+use Rattle.rules.specs.declared.Span.{Span}
+use Rattle.rules.specs.Values.{table_rows, row_place, row_length, nowhere, row_span, desk_span, seek_plain, plain_span}
+use Rattle.lookup.specs.Lent.{span_by, desk_by, Within}
 
 -- where the value of a row ends
-abbrev rowEnd : List ℕ → ℕ → ℕ
-rowEnd t row = rowPlace t row + rowLength t row
+abbrev row_end : List ℕ → ℕ → ℕ
+row_end t row = row_place t row + row_length t row
 
-abbrev rowValue : List ℕ → ℕ → Span
-rowValue t row = record { start = rowPlace t row; len = rowLength t row; there = true }
+abbrev row_value : List ℕ → ℕ → Span
+row_value t row = record { start = row_place t row; len = row_length t row; there = true }
 
 module _ (count : ℕ) (t : List ℕ) (row n : ℕ) where
-  pub no-row : count ≤ row → nowhere ≡ spanBy count t row n
-  unfolding spanBy
-  no-row h = rw (le-ltb row count h)
+  pub no_row : count ≤ row → nowhere ≡ span_by count t row n
+  unfolding span_by
+  no_row h = rw (le-ltb row count h)
 
-  pub outside : row < count → n < rowEnd t row → nowhere ≡ spanBy count t row n
-  unfolding spanBy
-  outside h k = rw (lt-ltb row count h, lt-leb (rowEnd t row) n k)
+  pub outside : row < count → n < row_end t row → nowhere ≡ span_by count t row n
+  unfolding span_by
+  outside h k = rw (lt-ltb row count h, lt-leb (row_end t row) n k)
 
-  pub inside : row < count → rowEnd t row ≤ n → rowValue t row ≡ spanBy count t row n
-  unfolding spanBy
-  inside h k = rw (lt-ltb row count h, le-leb (rowEnd t row) n k)
+  pub inside : row < count → row_end t row ≤ n → row_value t row ≡ span_by count t row n
+  unfolding span_by
+  inside h k = rw (lt-ltb row count h, le-leb (row_end t row) n k)
 
-  pub row-within : Within (spanBy count t row n) n
-  unfolding spanBy
-  row-within = cases (ltb row count) (leb (rowEnd t row) n) refl
+  pub row_within : Within (span_by count t row n) n
+  unfolding span_by
+  row_within = cases (ltb row count) (leb (row_end t row) n) refl
     where
-      cases : (a b : Bool) → leb (rowEnd t row) n ≡ b → Within (cond (a && b) (rowValue t row) nowhere) n
-      cases true true e = leb-true (rowEnd t row) n e
+      cases : (a b : Bool) → leb (row_end t row) n ≡ b → Within (cond (a && b) (row_value t row) nowhere) n
+      cases true true e = leb-true (row_end t row) n e
       cases true false e = omega arith
       cases false b e = omega arith
 
@@ -46,32 +46,32 @@ pub record InBoth (m c : ℕ) (s : Span) : Type 0 where
   pub copy : Within s c
 
 module _ (count row m c : ℕ) (t : List ℕ) where
-  pub apart : (m ≡ c → ⊥) → nowhere ≡ deskBy count row m c t
-  unfolding deskBy
-  apart h = rw (ne-eqb m c h)
+  pub apart : (m ≡ c → ⊥) → nowhere ≡ desk_by count row m c t
+  unfolding desk_by
+  apart h = rw (ne_eqb m c h)
 
-  pub alike : m ≡ c → spanBy count t row c ≡ deskBy count row m c t
-  unfolding deskBy
+  pub alike : m ≡ c → span_by count t row c ≡ desk_by count row m c t
+  unfolding desk_by
   alike h = rw (eq-eqb m c h)
 
-  pub desk-within : InBoth m c (deskBy count row m c t)
-  unfolding deskBy
+  pub desk-within : InBoth m c (desk_by count row m c t)
+  unfolding desk_by
   desk-within = cases (eqb m c) refl
     where
-      cases : (b : Bool) → eqb m c ≡ b → InBoth m c (cond b (spanBy count t row c) nowhere)
-      cases true e = record { message = omega (arith, row-within count t row c, eqb-true m c e); copy = row-within count t row c }
+      cases : (b : Bool) → eqb m c ≡ b → InBoth m c (cond b (span_by count t row c) nowhere)
+      cases true e = record { message = omega (arith, row_within count t row c, eqb-true m c e); copy = row_within count t row c }
       cases false e = record { message = omega arith; copy = omega arith }
 
 -- ---- for the count of a table's own rows
 module _ (k : ℕ) (m t : List ℕ) where
-  pub own-span : (row n : ℕ) → spanBy (tableRows k m t) t row n ≡ rowSpan k m t row n
-  unfolding spanBy rowSpan
+  pub own-span : (row n : ℕ) → span_by (table_rows k m t) t row n ≡ row_span k m t row n
+  unfolding span_by row_span
   own-span row n = refl
 
-  pub own-desk : (row copy : ℕ) → deskBy (tableRows k m t) row (length m) copy t ≡ deskSpan k row m copy t
-  unfolding deskBy deskSpan spanBy rowSpan
+  pub own-desk : (row copy : ℕ) → desk_by (table_rows k m t) row (length m) copy t ≡ desk_span k row m copy t
+  unfolding desk_by desk_span span_by row_span
   own-desk row copy = refl
 
-  pub plain-within : (typ inst : ℕ) → Within (plainSpan k typ inst m t) (length m)
-  unfolding plainSpan spanBy rowSpan
-  plain-within typ inst = row-within (tableRows k m t) t (seekPlain t typ inst 0 (tableRows k m t)) (length m)
+  pub plain-within : (typ inst : ℕ) → Within (plain_span k typ inst m t) (length m)
+  unfolding plain_span span_by row_span
+  plain-within typ inst = row_within (table_rows k m t) t (seek_plain t typ inst 0 (table_rows k m t)) (length m)

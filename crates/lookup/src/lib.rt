@@ -1,12 +1,11 @@
 // Reading a value: the desk's lookup and the plain lookup. A table may hold anything at all, so nothing in it is believed before it
 // is tested, and its 16-bit numbers are widened before they are summed. Whether it is a table of the message on the kind reads every row's standing, so that
 // is looked at once a call.
-ghost use mathlib.Core.Path.{_≡_};
-ghost use mathlib.Core.Bool.{cond};
-ghost use lib.ListN.{length};
-ghost use Rattle·rules.specs.Values.{standingKept, isOf, tableRows, cell, nowhere, isPlain, seekPlain, plainSpan, Stands};
-ghost use Rattle·rules.specs.Answers.{Plain, PlainFound, Desk, DeskFound};
-ghost use Rattle·lookup·specs.specs.Lent.{Number, HasRow, HasRows, Asked, headed, spanBy, deskBy, Within};
+ghost use Rattle.std.specs.Prelude.{◌≡◌, cond, length};
+ghost use Rattle.rules.specs.Values.{standing_kept, is_of, table_rows, cell, nowhere, is_plain, seek_plain, plain_span, Stands};
+ghost use Rattle.rules.specs.Answers.{Plain, PlainFound, Desk, DeskFound};
+ghost use Rattle.lookup.specs.Lent.{Number, HasRow, HasRows, Asked, headed, span_by, desk_by, Within};
+
 use rules::Span;
 
 // The numbers of a table's header, after which the rows stand, and the numbers of a row.
@@ -16,19 +15,19 @@ const ROW: usize = 6;
 
 // A number of the table to count with.
 fn wide(x: u16) -> usize
-    ensures { λ r. ⌜ Number x r ⌝ }
+    ensures { Number x result }
 {
     x as usize
 }
 
 fn octet(x: u8) -> usize
-    ensures { λ r. ⌜ r ≡ x ⌝ }
+    ensures { result ≡ x }
 {
     x as usize
 }
 
 fn pick(hit: bool, yes: usize, no: usize) -> usize
-    ensures { λ r. ⌜ r ≡ cond hit yes no ⌝ }
+    ensures { result ≡ cond hit yes no }
 {
     if hit {
         return yes;
@@ -38,15 +37,15 @@ fn pick(hit: bool, yes: usize, no: usize) -> usize
 
 // Number `j` of a row.
 fn number(row: usize, j: usize, table: &[u16]) -> usize
-    requires { ⌜ Asked (now table) row j ⌝ }
-    ensures { λ r. ⌜ Number (cell (now (table .entry)) row j) r ⌝ }
+    requires { Asked table.now row j }
+    ensures { Number (cell table.now row j) result }
 {
     wide(table[HEADER + ROW * row + j])
 }
 
 // Is the table as long as its header says, with the rows where they have to be?
 fn is_headed(table: &[u16]) -> bool
-    ensures { λ r. ⌜ r ≡ headed (now (table .entry)) ⌝ }
+    ensures { result ≡ headed table.now }
 {
     if table.len() < HEADER {
         return false;
@@ -63,8 +62,8 @@ fn is_headed(table: &[u16]) -> bool
 
 // How many of the first `count` rows have standing 0.
 fn standing_kept(count: usize, table: &[u16]) -> usize
-    requires { ⌜ HasRows (now table) count ⌝ }
-    ensures { λ r. ⌜ r ≡ standingKept (now (table .entry)) 0 count ⌝ }
+    requires { HasRows table.now count }
+    ensures { result ≡ standing_kept table.now 0 count }
 {
     let mut kept = 0;
     let mut row = 0;
@@ -79,7 +78,7 @@ fn standing_kept(count: usize, table: &[u16]) -> usize
 
 // By its header, is it a table of that message on that kind? The kind may be any number, and is compared alone.
 fn is_of(kind: u32, message: &[u8], table: &[u16]) -> bool
-    ensures { λ r. ⌜ r ≡ isOf kind (now (message .entry)) (now (table .entry)) ⌝ }
+    ensures { result ≡ is_of kind message.now table.now }
 {
     if !is_headed(table) {
         return false;
@@ -98,7 +97,7 @@ fn is_of(kind: u32, message: &[u8], table: &[u16]) -> bool
 
 // How many rows the table has for the lookups: none if it is not of that message on that kind.
 pub fn rows(kind: u32, message: &[u8], table: &[u16]) -> usize
-    ensures { λ r. ⌜ r ≡ tableRows kind (now (message .entry)) (now (table .entry)) ⌝ }
+    ensures { result ≡ table_rows kind message.now table.now }
 {
     if is_of(kind, message, table) {
         return wide(table[0]);
@@ -107,7 +106,7 @@ pub fn rows(kind: u32, message: &[u8], table: &[u16]) -> usize
 }
 
 fn nowhere() -> Span
-    ensures { λ r. ⌜ r ≡ nowhere ⌝ }
+    ensures { result ≡ nowhere }
 {
     Span {
         start: 0,
@@ -118,8 +117,8 @@ fn nowhere() -> Span
 
 // Where the value of a row stands in a buffer of `size` octets, of a table with `count` rows.
 fn row_span(count: usize, row: usize, size: usize, table: &[u16]) -> Span
-    requires { ⌜ HasRows (now table) count ⌝ }
-    ensures { λ r. ⌜ r ≡ spanBy count (now (table .entry)) row size ⌝ }
+    requires { HasRows table.now count }
+    ensures { result ≡ span_by count table.now row size }
 {
     if count <= row {
         return nowhere();
@@ -138,8 +137,8 @@ fn row_span(count: usize, row: usize, size: usize, table: &[u16]) -> Span
 
 // Where it stands in a message and a copy of so many octets.
 fn desk_span(count: usize, row: usize, message: usize, copy: usize, table: &[u16]) -> Span
-    requires { ⌜ HasRows (now table) count ⌝ }
-    ensures { λ r. ⌜ r ≡ deskBy count row message copy (now (table .entry)) ⌝ }
+    requires { HasRows table.now count }
+    ensures { result ≡ desk_by count row message copy table.now }
 {
     if message != copy {
         return nowhere();
@@ -149,8 +148,8 @@ fn desk_span(count: usize, row: usize, message: usize, copy: usize, table: &[u16
 
 // Is the row kept, with parent 0 and that pair?
 fn is_plain(typ: u16, inst: u16, row: usize, table: &[u16]) -> bool
-    requires { ⌜ HasRow (now table) row ⌝ }
-    ensures { λ r. ⌜ r ≡ isPlain (now (table .entry)) typ inst row ⌝ }
+    requires { HasRow table.now row }
+    ensures { result ≡ is_plain table.now typ inst row }
 {
     if number(row, 0, table) != 0 {
         return false;
@@ -166,8 +165,8 @@ fn is_plain(typ: u16, inst: u16, row: usize, table: &[u16]) -> bool
 
 // The first such row of `count`, or their count.
 fn seek_plain(count: usize, typ: u16, inst: u16, table: &[u16]) -> usize
-    requires { ⌜ HasRows (now table) count ⌝ }
-    ensures { λ r. ⌜ r ≡ seekPlain (now (table .entry)) typ inst 0 count ⌝ }
+    requires { HasRows table.now count }
+    ensures { result ≡ seek_plain table.now typ inst 0 count }
 {
     let mut found = count;
     let mut row = 0;
@@ -183,7 +182,7 @@ fn seek_plain(count: usize, typ: u16, inst: u16, table: &[u16]) -> usize
 
 // Where its value stands in the message. The first such row decides: no later one is tried.
 fn plain_span(kind: u32, typ: u16, inst: u16, message: &[u8], table: &[u16]) -> Span
-    ensures { λ r. ⌜ r ≡ plainSpan kind typ inst (now (message .entry)) (now (table .entry)) ⌝ }
+    ensures { result ≡ plain_span kind typ inst message.now table.now }
 {
     let count = rows(kind, message, table);
     let row = seek_plain(count, typ, inst, table);
@@ -192,8 +191,8 @@ fn plain_span(kind: u32, typ: u16, inst: u16, message: &[u8], table: &[u16]) -> 
 
 // The part of a buffer that stands there.
 fn part<'a>(buffer: &'a [u8], span: Span) -> &'a [u8]
-    requires { ⌜ Within span (length (now buffer)) ⌝ }
-    ensures { λ r. ⌜ Stands (buffer .entry) span r ⌝ }
+    requires { Within span (length buffer.now) }
+    ensures { Stands buffer.entry span result }
 {
     let start = span.start;
     let end = start + span.len;
@@ -202,14 +201,14 @@ fn part<'a>(buffer: &'a [u8], span: Span) -> &'a [u8]
 
 // The plain lookup: the part of the message where the value of the pair's first kept row in the body stands, or the empty part.
 pub fn plain<'a>(kind: u32, typ: u16, inst: u16, message: &'a [u8], table: &[u16]) -> &'a [u8]
-    ensures { λ r. ⌜ Plain kind typ inst (message .entry) (now (table .entry)) r ⌝ }
+    ensures { Plain kind typ inst message.entry table.now result }
 {
     part(message, plain_span(kind, typ, inst, message, table))
 }
 
 // Does the plain lookup answer a row's part, be it empty?
 pub fn plain_found(kind: u32, typ: u16, inst: u16, message: &[u8], table: &[u16]) -> bool
-    ensures { λ r. ⌜ PlainFound kind typ inst (now (message .entry)) (now (table .entry)) r ⌝ }
+    ensures { PlainFound kind typ inst message.now table.now result }
 {
     plain_span(kind, typ, inst, message, table).there
 }
@@ -223,8 +222,8 @@ pub fn desk_part<'a>(
     copy: &'a [u8],
     table: &[u16],
 ) -> &'a [u8]
-    requires { ⌜ HasRows (now table) count ⌝ }
-    ensures { λ r. ⌜ Stands (cond right (message .entry) (copy .entry)) (deskBy count row (length (now (message .entry))) (length (now (copy .entry))) (now (table .entry))) r ⌝ }
+    requires { HasRows table.now count }
+    ensures { Stands (cond right message.entry copy.entry) (desk_by count row (length message.now) (length copy.now) table.now) result }
 {
     let span = desk_span(count, row, message.len(), copy.len(), table);
     if right {
@@ -243,7 +242,7 @@ pub fn desk<'a>(
     copy: &'a [u8],
     table: &[u16],
 ) -> &'a [u8]
-    ensures { λ r. ⌜ Desk kind row right (message .entry) (copy .entry) (now (table .entry)) r ⌝ }
+    ensures { Desk kind row right message.entry copy.entry table.now result }
 {
     desk_part(rows(kind, message, table), row, right, message, copy, table)
 }
@@ -257,7 +256,7 @@ pub fn desk_found(
     copy: &[u8],
     table: &[u16],
 ) -> bool
-    ensures { λ r. ⌜ DeskFound kind row right (now (message .entry)) (now (copy .entry)) (now (table .entry)) r ⌝ }
+    ensures { DeskFound kind row right message.now copy.now table.now result }
 {
     let count = rows(kind, message, table);
     desk_span(count, row, message.len(), copy.len(), table).there

@@ -1,5 +1,5 @@
 -- The parts of contracts over places in a text. Assumes nothing.
-use Prim.Native.Nat.{ℕ, _≤_, _<_}
+use Rattle.std.specs.Prelude.{ℕ, ◌≤◌, ◌<◌}
 
 -- a place from `from` on in a text of n octets, or its end
 pub record From (from n r : ℕ) : Type 0 where

@@ -1,24 +1,15 @@
 // Answers lookups, one a line of standard input (its first 65,536 octets count), in the second program's words, so that the answers
 // can be compared.
-ghost use mathlib.Core.Path.{_≡_};
-ghost use lib.ListN.{length};
-use libc::STDIN_FILENO;
-use libc::STDOUT_FILENO;
-use text::after;
-use text::field;
-use text::find;
-use text::long;
-use text::number;
-use text::numbers;
-use text::octets;
-use text::print_octets;
-use text::short;
+ghost use Rattle.std.specs.Prelude.{◌≡◌, length};
+
+use libc::{STDIN_FILENO, STDOUT_FILENO};
+use text::{after, field, find, long, number, numbers, octets, print_octets, short};
 
 mod text;
 
 // Room for more numbers than the table of a message has. The contract gives only the length, which lending it needs.
 fn table_buffer() -> [u16; 8192]
-    ensures { λ r. ⌜ 8192 ≡ length r ⌝ }
+    ensures { 8192 ≡ length result }
 {
     [0; 8192]
 }

@@ -1,16 +1,15 @@
 // The text of a lookup: fields with blanks between them, octets in hex, numbers in decimal, commas between those of a table. `-` is
 // an empty field. What is no such text is read as something, and never outside of what is lent.
-ghost use mathlib.Core.Path.{_≡_};
-ghost use Prim.Native.Nat.{_≤_, _<_};
-ghost use lib.ListN.{length};
-ghost use Rattle·io.specs.Counts.{Counts};
-ghost use Rattle·lookups·specs.specs.Places.{From, Past};
+ghost use Rattle.std.specs.Prelude.{◌≡◌, ◌≤◌, ◌<◌, length};
+ghost use Rattle.io.specs.Counts.{IsPrefixLen};
+ghost use Rattle.lookups.specs.Places.{From, Past};
+
 use libc::STDOUT_FILENO;
 
 // The place of the first `x` from `from` on, or the end.
 pub(crate) fn find(text: &[u8], from: usize, x: u8) -> usize
-    requires { ⌜ from ≤ length (now text) ⌝ }
-    ensures { λ r. ⌜ From from (length (now (text .entry))) r ⌝ }
+    requires { from ≤ length text.now }
+    ensures { From from (length text.now) result }
 {
     let mut at = from;
     while at < text.len() {
@@ -24,8 +23,8 @@ pub(crate) fn find(text: &[u8], from: usize, x: u8) -> usize
 
 // The place after it, or the end.
 pub(crate) fn after(text: &[u8], from: usize, x: u8) -> usize
-    requires { ⌜ from ≤ length (now text) ⌝ }
-    ensures { λ r. ⌜ Past from (length (now (text .entry))) r ⌝ }
+    requires { from ≤ length text.now }
+    ensures { Past from (length text.now) result }
 {
     let at = find(text, from, x);
     if at < text.len() {
@@ -48,16 +47,16 @@ pub(crate) fn field<'a>(line: &'a [u8], k: usize) -> &'a [u8] {
 
 // The value of a hex digit.
 fn nibble(x: u8) -> u8
-    ensures { λ r. ⌜ r < 16 ⌝ }
+    ensures { result < 16 }
 {
-    if x < b'A' {
+    if x < b'_a' {
         return x % 16;
     }
     (x % 16 + 9) % 16
 }
 
 fn least(a: usize, b: usize) -> usize
-    ensures { λ r. ⌜ (r ≤ a) × (r ≤ b) ⌝ }
+    ensures { (result ≤ a) × (result ≤ b) }
 {
     if a < b {
         return a;
@@ -67,7 +66,7 @@ fn least(a: usize, b: usize) -> usize
 
 // Lays the octets of a field down, as many as there is room for, and answers how many.
 pub(crate) fn octets(digits: &[u8], room: &mut [u8]) -> usize
-    ensures { λ r. ⌜ Counts r (now (room .exit)) ⌝ }
+    ensures { IsPrefixLen result room.new }
 {
     let count = least(digits.len() / 2, room.len());
     let mut n = 0;
@@ -121,8 +120,8 @@ fn is_empty(digits: &[u8]) -> bool {
 
 // Lays one number more down, if there is room for it.
 fn put(room: &mut [u16], n: usize, x: u16) -> usize
-    ensures { λ r. ⌜ length (now (room .exit)) ≡ length (now (room .entry)) ⌝ }
-    ensures { λ r. ⌜ r ≤ length (now (room .entry)) ⌝ }
+    ensures room_len_unchanged { length room.new ≡ length room.old }
+    ensures upper_bound { result ≤ length room.old }
 {
     if n < room.len() {
         room[n] = x;
@@ -133,7 +132,7 @@ fn put(room: &mut [u16], n: usize, x: u16) -> usize
 
 // Lays the numbers of a table down, as many as there is room for, and answers how many.
 pub(crate) fn numbers(digits: &[u8], room: &mut [u16]) -> usize
-    ensures { λ r. ⌜ Counts r (now (room .exit)) ⌝ }
+    ensures { IsPrefixLen result room.new }
 {
     if is_empty(digits) {
         return 0;
@@ -150,7 +149,7 @@ pub(crate) fn numbers(digits: &[u8], room: &mut [u16]) -> usize
 
 // Room for the digits of the largest part.
 fn digit_room() -> [u8; 131072]
-    ensures { λ r. ⌜ 131072 ≡ length r ⌝ }
+    ensures { 131072 ≡ length result }
 {
     [0; 131072]
 }

@@ -1,11 +1,11 @@
 -- What a part that comes back cleared says of the whole. Assumes nothing.
-use mathlib.Core.Path.{_≡_, _∙_}
-use mathlib.Core.List.{List, _++_}
-use Prim.Native.Nat.{ℕ, _+_, _-_, _≤_}
+use mathlib.Core.Path.{◌≡◌, ◌∙◌}
+use mathlib.Core.List.{List, ◌++◌}
+use Prim.Native.Nat.{ℕ, ◌+◌, ◌-◌, ◌≤◌}
 use native.Mathlib.Omega.{arith}
 use lib.ListN.{length, take, drop, replicate, length-take, length-drop}
 use lib.Seq.{drop-drop}
-use Rattle·rules.specs.Covered.{zeroed}
+use Rattle.rules.specs.Covered.{zeroed}
 
 -- the part from a up to e, which is all zero
 pub part-back : (l ys : List ℕ) (a e n : ℕ) → e ≡ a + n → e ≤ length l → ys ≡ replicate (length (take (e - a) (drop a l))) 0

@@ -1,16 +1,14 @@
 // The masked copy: a copy of a message in which every covered octet is 0, each value cleared in its own part of the copy.
-ghost use mathlib.Core.Path.{_≡_};
-ghost use Prim.Native.Nat.{_+_, _-_, _≤_};
-ghost use lib.ListN.{length, replicate};
-ghost use Rattle·rules.specs.Frames.{framesOf};
-ghost use Rattle·rules.specs.Covered.{zeroed, insideCleared};
-ghost use Rattle·rules.specs.Table.{laid};
-ghost use Rattle·facts.specs.Facts.{facts};
-ghost use Rattle·masking·specs.specs.Clearing.{between, clearedRow, clearedRows, Inside, RowWithin, Within, Masks};
+ghost use Rattle.std.specs.Prelude.{◌≡◌, ◌+◌, ◌-◌, ◌≤◌, length, replicate};
+ghost use Rattle.rules.specs.Frames.{frames_of};
+ghost use Rattle.rules.specs.Covered.{zeroed, inside_cleared};
+ghost use Rattle.rules.specs.Table.{laid};
+ghost use Rattle.facts.specs.Facts.{facts};
+ghost use Rattle.masking.specs.Clearing.{between, cleared_row, cleared_rows, Inside, RowWithin, Within, Masks};
 
 // Every octet of the part becomes 0.
 pub(crate) fn clear(part: &mut [u8])
-    ensures { λ _. ⌜ now (part .exit) ≡ replicate (length (now (part .entry))) 0 ⌝ }
+    ensures { part.new ≡ replicate (length part.old) 0 }
 {
     let mut n = 0;
     while n < part.len() {
@@ -21,8 +19,8 @@ pub(crate) fn clear(part: &mut [u8])
 
 // A value of `len` octets at `place`, whose first `shown` octets stay.
 pub(crate) fn clear_value(copy: &mut [u8], place: usize, len: usize, shown: usize)
-    requires { ⌜ (shown ≤ len) × (place + len ≤ length (now copy)) ⌝ }
-    ensures { λ _. ⌜ now (copy .exit) ≡ zeroed (now (copy .entry)) (place + shown) (len - shown) ⌝ }
+    requires { (shown ≤ len) × (place + len ≤ length copy.old) }
+    ensures { copy.new ≡ zeroed copy.old (place + shown) (len - shown) }
 {
     let start = place + shown;
     let end = place + len;
@@ -31,8 +29,8 @@ pub(crate) fn clear_value(copy: &mut [u8], place: usize, len: usize, shown: usiz
 
 // The values of the elements that fill the message from `place` up to `end`. Their headers are read where nothing is cleared.
 pub(crate) fn clear_inside(message: &[u8], place: usize, end: usize, copy: &mut [u8])
-    requires { ⌜ Inside (now message) place end (length (now copy)) ⌝ }
-    ensures { λ _. ⌜ now (copy .exit) ≡ insideCleared (now (copy .entry)) place (framesOf (between (now (message .entry)) place end)) ⌝ }
+    requires { Inside message.now place end (length copy.old) }
+    ensures { copy.new ≡ inside_cleared copy.old place (frames_of (between message.now place end)) }
 {
     let mut at = place;
     while at < end {
@@ -45,8 +43,8 @@ pub(crate) fn clear_inside(message: &[u8], place: usize, end: usize, copy: &mut 
 
 // What is covered of the value of row `n`, and of a void one the values inside it.
 pub(crate) fn clear_row(types: &[u8; 64], rows: &[u16], n: usize, message: &[u8], copy: &mut [u8])
-    requires { ⌜ (now types ≡ facts) × RowWithin (now rows) (now message) n (length (now copy)) ⌝ }
-    ensures { λ _. ⌜ now (copy .exit) ≡ clearedRow (now (rows .entry)) (now (message .entry)) n (now (copy .entry)) ⌝ }
+    requires { (types.now ≡ facts) × RowWithin rows.now message.now n (length copy.old) }
+    ensures { copy.new ≡ cleared_row rows.now message.now n copy.old }
 {
     let at = 6 * n;
     let place = rows[at + 3] as usize;
@@ -68,8 +66,8 @@ pub(crate) fn clear_rows(
     message: &[u8],
     copy: &mut [u8],
 )
-    requires { ⌜ (now types ≡ facts) × Within (now rows) (now message) count (length (now copy)) ⌝ }
-    ensures { λ _. ⌜ now (copy .exit) ≡ clearedRows (now (rows .entry)) (now (message .entry)) count (now (copy .entry)) ⌝ }
+    requires { (types.now ≡ facts) × Within rows.now message.now count (length copy.old) }
+    ensures { copy.new ≡ cleared_rows rows.now message.now count copy.old }
 {
     let mut row = 0;
     while row < count {
@@ -80,8 +78,8 @@ pub(crate) fn clear_rows(
 
 // The message over the start of a copy, and what is covered of the values of its first `count` rows cleared.
 pub fn write_copy(rows: &[u16], count: usize, message: &[u8], copy: &mut [u8])
-    requires { ⌜ Masks (now rows) (now message) count (length (now copy)) ⌝ }
-    ensures { λ _. ⌜ now (copy .exit) ≡ clearedRows (now (rows .entry)) (now (message .entry)) count (laid (now (message .entry)) (now (copy .entry))) ⌝ }
+    requires { Masks rows.now message.now count (length copy.old) }
+    ensures { copy.new ≡ cleared_rows rows.now message.now count (laid message.now copy.old) }
 {
     copying::copy_octets(message, copy);
     let types = facts::table();

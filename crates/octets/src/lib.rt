@@ -1,18 +1,16 @@
 // Numbers stored as octets, two octets a number, high octet first.
-ghost use mathlib.Core.Path.{_≡_};
-ghost use mathlib.Core.List.{[], _∷_, _++_};
-ghost use Prim.Native.Nat.{_+_, _*_, _<_, _≤_};
-ghost use lib.ListN.{length, drop};
-ghost use lib.Seq.{paste};
-ghost use Rattle·rules.specs.Sizes.{largestMessage, used};
-ghost use Rattle·rules.specs.Octets.{octetsOf, fiveLaid, answerLaid};
-ghost use Rattle·octets·specs.specs.Stored.{put2, tableStored};
+ghost use Rattle.std.specs.Prelude.{◌≡◌, [], ◌∷◌, ◌++◌, ◌+◌, ◌*◌, ◌<◌, ◌≤◌, length, drop};
+ghost use Rattle.std.proofs.Math.Seq.{paste};
+ghost use Rattle.rules.specs.Sizes.{largest_message, used};
+ghost use Rattle.rules.specs.Octets.{octets_of, five_laid, answer_laid};
+ghost use Rattle.octets.specs.Stored.{put2, table_stored};
+
 use rules::Verdict;
 
 // One number, at a place.
 pub fn put(out: &mut [u8], at: usize, v: u16)
-    requires { ⌜ at + 1 < length (now out) ⌝ }
-    ensures { λ _. ⌜ now (out .exit) ≡ put2 (now (out .entry)) at v ⌝ }
+    requires { at + 1 < length out.old }
+    ensures { out.new ≡ put2 out.old at v }
 {
     out[at] = (v / 256) as u8;
     out[at + 1] = (v % 256) as u8;
@@ -20,7 +18,7 @@ pub fn put(out: &mut [u8], at: usize, v: u16)
 
 // The five numbers of a verdict. A buffer under 10 octets is not written.
 pub fn put_five(v: Verdict, five: &mut [u8])
-    ensures { λ _. ⌜ now (five .exit) ≡ fiveLaid v (now (five .entry)) ⌝ }
+    ensures { five.new ≡ five_laid v five.old }
 {
     if five.len() < 10 {
         return;
@@ -34,7 +32,7 @@ pub fn put_five(v: Verdict, five: &mut [u8])
 
 // The five numbers, and the length of what is written. A buffer under 12 octets is not written.
 pub fn put_answer(v: Verdict, length: u16, answer: &mut [u8])
-    ensures { λ _. ⌜ now (answer .exit) ≡ answerLaid v length (now (answer .entry)) ⌝ }
+    ensures { answer.new ≡ answer_laid v length answer.old }
 {
     if answer.len() < 12 {
         return;
@@ -45,8 +43,8 @@ pub fn put_answer(v: Verdict, length: u16, answer: &mut [u8])
 
 // A table's header: rows, kept rows, place of the first row, numbers used, message type, kind.
 pub fn put_header(n: usize, kept: usize, typ: u16, kind: u16, table: &mut [u8])
-    requires { ⌜ (n ≤ largestMessage) × (kept ≤ n) × (12 ≤ length (now table)) ⌝ }
-    ensures { λ _. ⌜ now (table .exit) ≡ octetsOf (n ∷ kept ∷ 6 ∷ used n ∷ typ ∷ kind ∷ []) ++ drop 12 (now (table .entry)) ⌝ }
+    requires { (n ≤ largest_message) × (kept ≤ n) × (12 ≤ length table.old) }
+    ensures { table.new ≡ octets_of (n ∷ kept ∷ 6 ∷ used n ∷ typ ∷ kind ∷ []) ++ drop 12 table.old }
 {
     put(table, 0, n as u16);
     put(table, 2, kept as u16);
@@ -58,8 +56,8 @@ pub fn put_header(n: usize, kept: usize, typ: u16, kind: u16, table: &mut [u8])
 
 // The first `count` numbers of `rows`, after the header.
 fn put_rows(rows: &[u16], count: usize, table: &mut [u8])
-    requires { ⌜ (count ≤ length (now rows)) × (12 + 2 * count ≤ length (now table)) ⌝ }
-    ensures { λ _. ⌜ now (table .exit) ≡ paste (now (table .entry)) 12 (octetsOf (now (rows .entry))) (2 * count) ⌝ }
+    requires { (count ≤ length rows.now) × (12 + 2 * count ≤ length table.old) }
+    ensures { table.new ≡ paste table.old 12 (octets_of rows.now) (2 * count) }
 {
     let mut i = 0;
     while i < count {
@@ -70,7 +68,7 @@ fn put_rows(rows: &[u16], count: usize, table: &mut [u8])
 
 // The table of the first `n` rows of `rows`, six numbers each, of a message type and a kind. Nothing is written if it does not fit.
 pub fn put_table(rows: &[u16], n: usize, kept: usize, typ: u16, kind: u16, table: &mut [u8])
-    ensures { λ _. ⌜ now (table .exit) ≡ tableStored (now (rows .entry)) n kept typ kind (now (table .entry)) ⌝ }
+    ensures { table.new ≡ table_stored rows.now n kept typ kind table.old }
 {
     if 1022 < n {
         return;

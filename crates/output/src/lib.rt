@@ -1,9 +1,9 @@
 // The part of a buffer that a program writes.
-ghost use Rattle·output·specs.specs.Parts.{First};
+ghost use Rattle.output.specs.Parts.{First};
 
 // The first `n` octets of `text`, or all of them if it has fewer.
 pub fn first<'a>(text: &'a [u8], n: usize) -> &'a [u8]
-    ensures { λ r. ⌜ First (text .entry) n r ⌝ }
+    ensures { First text.entry n result }
 {
     if text.len() < n {
         return text;

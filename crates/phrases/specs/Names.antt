@@ -1,30 +1,25 @@
 -- Elements' names by type number, in a table of names that is lent. Assumes nothing.
-use Prim.Native.Nat.{ℕ, _*_, _≤_}
-use mathlib.Core.Path.{_≡_}
-use mathlib.Core.Bool.{cond, _&&_}
-use mathlib.Core.List.{List, [], _∷_}
-use lib.Dec.{eqb}
-use lib.ListN.{length, take, drop}
+use Rattle.std.specs.Prelude.{ℕ, ◌*◌, ◌≤◌, ◌≡◌, cond, ◌&&◌, List, [], ◌∷◌, eqb, length, take, drop}
 
 -- the octets of an entry of the table of names
-abbrev pub entryOctets : ℕ
-entryOctets = 32
+abbrev pub entry_octets : ℕ
+entry_octets = 32
 
 -- the entry of a type number: as much of it as the table has
-abbrev pub entryOf : List ℕ → ℕ → List ℕ
-entryOf names t = take entryOctets (drop (entryOctets * t) names)
+abbrev pub entry_of : List ℕ → ℕ → List ℕ
+entry_of names t = take entry_octets (drop (entry_octets * t) names)
 
 -- a blank with nothing after it goes
-abbrev pub beforeBlanks : ℕ → List ℕ → List ℕ
-beforeBlanks x xs = cond (eqb x 32 && eqb (length xs) 0) [] (x ∷ xs)
+abbrev pub before_blanks : ℕ → List ℕ → List ℕ
+before_blanks x xs = cond (eqb x 32 && eqb (length xs) 0) [] (x ∷ xs)
 
 -- without the blanks at its end
 unfoldable pub trimmed : List ℕ → List ℕ
 trimmed [] = []
-trimmed (x ∷ xs) = beforeBlanks x (trimmed xs)
+trimmed (x ∷ xs) = before_blanks x (trimmed xs)
 
-unfoldable pub elementName : List ℕ → ℕ → List ℕ
-elementName names t = trimmed (entryOf names t)
+unfoldable pub element_name : List ℕ → ℕ → List ℕ
+element_name names t = trimmed (entry_of names t)
 
 -- the first n octets of an entry are its name
 pub record Ends (entry : List ℕ) (n : ℕ) : Type 0 where

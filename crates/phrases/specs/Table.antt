@@ -1,8 +1,7 @@
 -- The texts: names by number, and sentences with slots. A name or a sentence more is a line more here and in `src/table.rt`. Assumes nothing.
-use Prim.Native.Nat.{ℕ}
+use Rattle.std.specs.Prelude.{ℕ, List, [], ◌∷◌, ◌++◌}
 use Prim.Native.String.{String}
-use mathlib.Core.List.{List, [], _∷_, _++_}
-use Rattle·phrases·specs.specs.Texts.{Piece, say, slot, Text, every, keyFor, textIn}
+use Rattle.phrases.specs.Texts.{Piece, say, slot, Text, every, key_for, text_in}
 
 -- ---- sections, and what a text of each is numbered by
 
@@ -80,8 +79,8 @@ voids = 16
 abbrev pub itself : ℕ
 itself = 0
 
-abbrev pub unlessZero : ℕ
-unlessZero = 1
+abbrev pub unless_zero : ℕ
+unless_zero = 1
 
 abbrev pub element : ℕ
 element = 2
@@ -102,7 +101,7 @@ slots =
     ∷ text ∷ 4 ∷ 0 ∷ causes
     ∷ itself ∷ 5 ∷ 0 ∷ 0
     ∷ text ∷ 5 ∷ 0 ∷ levels
-    ∷ unlessZero ∷ 5 ∷ 0 ∷ 0
+    ∷ unless_zero ∷ 5 ∷ 0 ∷ 0
     ∷ itself ∷ 6 ∷ 0 ∷ 0
     ∷ element ∷ 6 ∷ 0 ∷ 0
     ∷ itself ∷ 7 ∷ 0 ∷ 0
@@ -114,7 +113,7 @@ slots =
     ∷ itself ∷ 8 ∷ 0 ∷ 0
     ∷ itself ∷ 9 ∷ 0 ∷ 0
     ∷ text ∷ 10 ∷ 0 ∷ claims
-    ∷ unlessZero ∷ 10 ∷ 0 ∷ 0
+    ∷ unless_zero ∷ 10 ∷ 0 ∷ 0
     ∷ itself ∷ 11 ∷ 0 ∷ 0
     ∷ itself ∷ 12 ∷ 0 ∷ 0
     ∷ text ∷ 13 ∷ 0 ∷ reasons
@@ -140,14 +139,14 @@ kind = slot 0
 abbrev pub size : Piece
 size = slot 1
 
-abbrev pub octetWord : Piece
-octetWord = slot 2
+abbrev pub octet_word : Piece
+octet_word = slot 2
 
 abbrev pub message : Piece
 message = slot 3
 
-abbrev pub messageType : Piece
-messageType = slot 4
+abbrev pub message_type : Piece
+message_type = slot 4
 
 abbrev pub code : Piece
 code = slot 5
@@ -161,8 +160,8 @@ place = slot 7
 abbrev pub level : Piece
 level = slot 8
 
-abbrev pub levelPlace : Piece
-levelPlace = slot 9
+abbrev pub level_place : Piece
+level_place = slot 9
 
 abbrev pub typ : Piece
 typ = slot 10
@@ -173,20 +172,20 @@ name = slot 11
 abbrev pub inst : Piece
 inst = slot 12
 
-abbrev pub rowCount : Piece
-rowCount = slot 13
+abbrev pub row_count : Piece
+row_count = slot 13
 
-abbrev pub rowWord : Piece
-rowWord = slot 14
+abbrev pub row_word : Piece
+row_word = slot 14
 
-abbrev pub keptCount : Piece
-keptCount = slot 15
+abbrev pub kept_count : Piece
+kept_count = slot 15
 
 abbrev pub version : Piece
 version = slot 16
 
-abbrev pub headerSize : Piece
-headerSize = slot 17
+abbrev pub header_size : Piece
+header_size = slot 17
 
 abbrev pub over : Piece
 over = slot 18
@@ -197,44 +196,44 @@ claim = slot 19
 abbrev pub flag : Piece
 flag = slot 20
 
-abbrev pub otherFlag : Piece
-otherFlag = slot 21
+abbrev pub other_flag : Piece
+other_flag = slot 21
 
 abbrev pub reason : Piece
 reason = slot 22
 
-abbrev pub rowNumber : Piece
-rowNumber = slot 23
+abbrev pub row_number : Piece
+row_number = slot 23
 
 abbrev pub parent : Piece
 parent = slot 24
 
-abbrev pub outerType : Piece
-outerType = slot 25
+abbrev pub outer_type : Piece
+outer_type = slot 25
 
-abbrev pub outerName : Piece
-outerName = slot 26
+abbrev pub outer_name : Piece
+outer_name = slot 26
 
-abbrev pub innerType : Piece
-innerType = slot 27
+abbrev pub inner_type : Piece
+inner_type = slot 27
 
-abbrev pub innerName : Piece
-innerName = slot 28
+abbrev pub inner_name : Piece
+inner_name = slot 28
 
-abbrev pub rowInst : Piece
-rowInst = slot 29
+abbrev pub row_inst : Piece
+row_inst = slot 29
 
-abbrev pub rowPlace : Piece
-rowPlace = slot 30
+abbrev pub row_place : Piece
+row_place = slot 30
 
-abbrev pub rowLength : Piece
-rowLength = slot 31
+abbrev pub row_length : Piece
+row_length = slot 31
 
 abbrev pub standing : Piece
 standing = slot 32
 
-abbrev pub standingIn : Piece
-standingIn = slot 33
+abbrev pub standing_in : Piece
+standing_in = slot 33
 
 -- ---- texts
 
@@ -269,27 +268,27 @@ texts =
     ∷ named levels every "in the group at octet "
     ∷ named counts 1 "row"
     ∷ named counts every "rows"
-    ∷ sentence verdicts 0 (say "accepted: " ∷ rowCount ∷ say " " ∷ rowWord ∷ say ", " ∷ keptCount ∷ say " kept\n" ∷ [])
+    ∷ sentence verdicts 0 (say "accepted: " ∷ row_count ∷ say " " ∷ row_word ∷ say ", " ∷ kept_count ∷ say " kept\n" ∷ [])
     ∷ refusal 1 (say ": kind not 1 to 4" ∷ [])
     ∷ refusal 2 (say ": message empty or over 4,096 octets" ∷ [])
     ∷ refusal 3 (say ": version " ∷ version ∷ say ", not 2" ∷ [])
-    ∷ refusal 4 (say ": its header has " ∷ headerSize ∷ say " octets, the message has " ∷ size ∷ [])
+    ∷ refusal 4 (say ": its header has " ∷ header_size ∷ say " octets, the message has " ∷ size ∷ [])
     ∷ refusal 5 (say ": P is set: a second message follows" ∷ [])
     ∷ refusal 6 (say ": the header says " ∷ over ∷ claim ∷ say " octets, the message has " ∷ size ∷ [])
-    ∷ refusal 7 (say ": message type " ∷ messageType ∷ say " " ∷ message ∷ say " is not handled" ∷ [])
-    ∷ refusal 21 (say ": message type " ∷ messageType ∷ say " " ∷ message ∷ say " is not handled on " ∷ kind ∷ [])
-    ∷ refusal 8 (say ": T is " ∷ flag ∷ say ", not " ∷ otherFlag ∷ say " as in message type " ∷ messageType ∷ say " " ∷ message ∷ [])
+    ∷ refusal 7 (say ": message type " ∷ message_type ∷ say " " ∷ message ∷ say " is not handled" ∷ [])
+    ∷ refusal 21 (say ": message type " ∷ message_type ∷ say " " ∷ message ∷ say " is not handled on " ∷ kind ∷ [])
+    ∷ refusal 8 (say ": T is " ∷ flag ∷ say ", not " ∷ other_flag ∷ say " as in message type " ∷ message_type ∷ say " " ∷ message ∷ [])
     ∷ refusal 9 (say ": octet " ∷ place ∷ say ": " ∷ reason ∷ [])
     ∷ refusal 11 (say ": a mandatory element is short, at octet " ∷ place ∷ say ": " ∷ typ ∷ say " " ∷ name ∷ say ", instance " ∷ inst ∷ [])
-    ∷ refusal 12 (say ": a mandatory element is missing " ∷ level ∷ levelPlace ∷ say ": " ∷ typ ∷ say " " ∷ name ∷ say ", instance " ∷ inst ∷ [])
+    ∷ refusal 12 (say ": a mandatory element is missing " ∷ level ∷ level_place ∷ say ": " ∷ typ ∷ say " " ∷ name ∷ say ", instance " ∷ inst ∷ [])
     ∷ refusal every []
-    ∷ sentence pages 0 (say "Message on " ∷ kind ∷ say ", " ∷ size ∷ octetWord ∷ say "\n" ∷ [])
-    ∷ sentence pages 1 (message ∷ say " (" ∷ messageType ∷ say ") on " ∷ kind ∷ say ", " ∷ size ∷ octetWord ∷ say "\n" ∷ [])
+    ∷ sentence pages 0 (say "Message on " ∷ kind ∷ say ", " ∷ size ∷ octet_word ∷ say "\n" ∷ [])
+    ∷ sentence pages 1 (message ∷ say " (" ∷ message_type ∷ say ") on " ∷ kind ∷ say ", " ∷ size ∷ octet_word ∷ say "\n" ∷ [])
     ∷ named pages every " row parent element                              inst place  len standing\n"
-    ∷ sentence rows 0 (rowNumber ∷ parent ∷ outerType ∷ say " " ∷ outerName ∷ rowInst ∷ rowPlace ∷ rowLength ∷ say " " ∷ [])
-    ∷ sentence rows every (rowNumber ∷ parent ∷ innerType ∷ say " " ∷ innerName ∷ rowInst ∷ rowPlace ∷ rowLength ∷ say " " ∷ [])
+    ∷ sentence rows 0 (row_number ∷ parent ∷ outer_type ∷ say " " ∷ outer_name ∷ row_inst ∷ row_place ∷ row_length ∷ say " " ∷ [])
+    ∷ sentence rows every (row_number ∷ parent ∷ inner_type ∷ say " " ∷ inner_name ∷ row_inst ∷ row_place ∷ row_length ∷ say " " ∷ [])
     ∷ sentence endings 0 (standing ∷ [])
-    ∷ sentence endings every (standingIn ∷ [])
+    ∷ sentence endings every (standing_in ∷ [])
     ∷ named marks 11 " <- short"
     ∷ named marks 12 " <- lacks it"
     ∷ named covers 0 "covered"
@@ -427,5 +426,5 @@ texts =
     ∷ []
 
 -- the text that a section has for a number
-unfoldable pub textFor : ℕ → ℕ → List ℕ
-textFor s n = textIn texts (keyFor s n) (keyFor s every)
+unfoldable pub text_for : ℕ → ℕ → List ℕ
+text_for s n = text_in texts (key_for s n) (key_for s every)

@@ -1,15 +1,13 @@
 // The text that a section has for a number, in the row of all texts.
-ghost use mathlib.Core.Path.{_≡_};
-ghost use mathlib.Core.Bool.{_||_};
-ghost use Prim.Native.Nat.{_≤_};
-ghost use lib.Dec.{eqb};
-ghost use lib.ListN.{length};
-ghost use Rattle·phrases·specs.specs.Texts.{keyFor, joined, standsAt, LengthAt, Holds};
-ghost use Rattle·phrases·specs.specs.Table.{texts, textFor};
+ghost use Rattle.std.specs.Prelude.{◌≡◌, ◌||◌, ◌≤◌, eqb, length};
+ghost use Rattle.phrases.specs.Texts.{key_for, joined, stands_at, LengthAt, Holds};
+ghost use Rattle.phrases.specs.Table.{texts, text_for};
+
 use crate::runs::number_at;
 use crate::table;
 
 // Where a text begins, and where it ends.
+#[derive(Drop)]
 pub(crate) struct Stretch {
     pub start: usize,
     pub end: usize,
@@ -17,7 +15,7 @@ pub(crate) struct Stretch {
 
 // Section and number as one.
 fn key(section: u8, number: u16) -> u16
-    ensures { λ r. ⌜ r ≡ keyFor section number ⌝ }
+    ensures { result ≡ key_for section number }
 {
     let first = 256 * (section as u16);
     if number < 255 {
@@ -27,7 +25,7 @@ fn key(section: u8, number: u16) -> u16
 }
 
 fn is_one(key: u16, one: u16, other: u16) -> bool
-    ensures { λ r. ⌜ r ≡ (eqb key one || eqb key other) ⌝ }
+    ensures { result ≡ (eqb key one || eqb key other) }
 {
     if key == one {
         return true;
@@ -36,15 +34,15 @@ fn is_one(key: u16, one: u16, other: u16) -> bool
 }
 
 fn length_at(lengths: &[u16], n: usize) -> usize
-    ensures { λ r. ⌜ LengthAt (now (lengths .entry)) n r ⌝ }
+    ensures { LengthAt lengths.now n result }
 {
     number_at(lengths, n) as usize
 }
 
 // The stretch of the first text whose key is one of the two.
 fn find(keys: &[u16], lengths: &[u16], key: u16, rest: u16) -> Stretch
-    requires { ⌜ length (now keys) ≤ 65535 ⌝ }
-    ensures { λ r. ⌜ r ≡ standsAt (now (keys .entry)) (now (lengths .entry)) key rest 0 ⌝ }
+    requires { length keys.now ≤ 65535 }
+    ensures { result ≡ stands_at keys.now lengths.now key rest 0 }
 {
     let mut start = 0;
     let mut n = 0;
@@ -66,7 +64,7 @@ fn find(keys: &[u16], lengths: &[u16], key: u16, rest: u16) -> Stretch
 }
 
 fn place(section: u8, number: u16) -> Stretch
-    ensures { λ r. ⌜ Holds r (joined texts) (textFor section number) ⌝ }
+    ensures { Holds result (joined texts) (text_for section number) }
 {
     let keys = table::keys();
     let lengths = table::lengths();
@@ -75,8 +73,8 @@ fn place(section: u8, number: u16) -> Stretch
 
 // The text, in the octets of all of them.
 pub(crate) fn text<'a>(octets: &'a [u8], section: u8, number: u16) -> &'a [u8]
-    requires { ⌜ now octets ≡ joined texts ⌝ }
-    ensures { λ r. ⌜ now r ≡ textFor section number ⌝ }
+    requires { octets.now ≡ joined texts }
+    ensures { result.now ≡ text_for section number }
 {
     let s = place(section, number);
     let start = s.start;

@@ -1,10 +1,10 @@
 // Elements' names by type number, in a table of names that is lent.
-ghost use mathlib.Core.Path.{_≡_};
-ghost use Rattle·phrases·specs.specs.Names.{entryOf, elementName, Ends};
+ghost use Rattle.std.specs.Prelude.{◌≡◌};
+ghost use Rattle.phrases.specs.Names.{entry_of, element_name, Ends};
 
 // The entry of a type number: as much of it as the table has.
 fn entry<'a>(names: &'a [u8], typ: u16) -> &'a [u8]
-    ensures { λ r. ⌜ now r ≡ entryOf (now (names .entry)) typ ⌝ }
+    ensures { result.now ≡ entry_of names.now typ }
 {
     let start = 32 * (typ as usize);
     if names.len() <= start {
@@ -19,7 +19,7 @@ fn entry<'a>(names: &'a [u8], typ: u16) -> &'a [u8]
 
 // How many octets an entry has without the blanks at its end.
 fn ended(entry: &[u8]) -> usize
-    ensures { λ r. ⌜ Ends (now (entry .entry)) r ⌝ }
+    ensures { Ends entry.now result }
 {
     let mut n = entry.len();
     while 0 < n {
@@ -33,7 +33,7 @@ fn ended(entry: &[u8]) -> usize
 
 // An element's name.
 pub fn element<'a>(names: &'a [u8], typ: u16) -> &'a [u8]
-    ensures { λ r. ⌜ now r ≡ elementName (now (names .entry)) typ ⌝ }
+    ensures { result.now ≡ element_name names.now typ }
 {
     let e = entry(names, typ);
     let n = ended(e);

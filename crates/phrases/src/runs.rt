@@ -1,10 +1,9 @@
 // Numbers as they are said: what stands at a place of a run, 0 past its end; and a number cut to 16 bits.
-ghost use mathlib.Core.Path.{_≡_};
-ghost use lib.ListN.{getD};
-ghost use Rattle·phrases·specs.specs.Sentences.{narrow};
+ghost use Rattle.std.specs.Prelude.{◌≡◌, get_or};
+ghost use Rattle.phrases.specs.Sentences.{narrow};
 
 pub fn number_at(run: &[u16], at: usize) -> u16
-    ensures { λ r. ⌜ r ≡ getD (now (run .entry)) at 0 ⌝ }
+    ensures { result ≡ get_or run.now at 0 }
 {
     if at < run.len() {
         return run[at];
@@ -13,7 +12,7 @@ pub fn number_at(run: &[u16], at: usize) -> u16
 }
 
 pub fn octet_at(run: &[u8], at: usize) -> u8
-    ensures { λ r. ⌜ r ≡ getD (now (run .entry)) at 0 ⌝ }
+    ensures { result ≡ get_or run.now at 0 }
 {
     if at < run.len() {
         return run[at];
@@ -23,7 +22,7 @@ pub fn octet_at(run: &[u8], at: usize) -> u8
 
 // A number over 65,535 is said as that.
 pub fn narrow(n: usize) -> u16
-    ensures { λ r. ⌜ r ≡ narrow n ⌝ }
+    ensures { result ≡ narrow n }
 {
     if n < 65536 {
         return n as u16;

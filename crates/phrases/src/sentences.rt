@@ -1,18 +1,17 @@
 // A text with its slots filled, of a run of numbers and with a table of the elements' names.
-ghost use mathlib.Core.Path.{_≡_};
-ghost use Prim.Native.Nat.{_≤_};
-ghost use Rattle·wording.specs.Puts.{Puts};
-ghost use Rattle·wording.specs.Pieces.{leftIn};
-ghost use Rattle·phrases·specs.specs.Table.{messages, textFor};
-ghost use Rattle·phrases·specs.specs.Sentences.{someDecimal, slotNumber, worded, slotText, pieceText, filled, said};
+ghost use Rattle.std.specs.Prelude.{◌≡◌, ◌≤◌};
+ghost use Rattle.wording.specs.Puts.{Puts};
+ghost use Rattle.wording.specs.Pieces.{left_of_room};
+ghost use Rattle.phrases.specs.Table.{messages, text_for};
+ghost use Rattle.phrases.specs.Sentences.{some_decimal, slot_number, worded, slot_text, piece_text, filled, said};
+
 use crate::finding::text;
 use crate::names::element;
-use crate::runs::number_at;
-use crate::runs::octet_at;
+use crate::runs::{number_at, octet_at};
 use crate::table;
 
 fn some_number(n: u16, at: usize, out: &mut [u8]) -> usize
-    ensures { λ r. ⌜ Puts (someDecimal n) at (now (out .entry)) r (now (out .exit)) ⌝ }
+    ensures { Puts (some_decimal n) at out.old result out.new }
 {
     if n == 0 {
         return at;
@@ -22,7 +21,7 @@ fn some_number(n: u16, at: usize, out: &mut [u8]) -> usize
 
 // A text with no slot, at the left of a column.
 fn name(section: u8, number: u16, width: usize, at: usize, out: &mut [u8]) -> usize
-    ensures { λ r. ⌜ Puts (leftIn width (textFor section number)) at (now (out .entry)) r (now (out .exit)) ⌝ }
+    ensures { Puts (left_of_room width (text_for section number)) at out.old result out.new }
 {
     let octets = table::octets();
     wording::left(text(&octets, section, number), width, at, out)
@@ -38,7 +37,7 @@ fn word(
     at: usize,
     out: &mut [u8],
 ) -> usize
-    ensures { λ r. ⌜ Puts (worded (now (names .entry)) what width section n) at (now (out .entry)) r (now (out .exit)) ⌝ }
+    ensures { Puts (worded names.now what width section n) at out.old result out.new }
 {
     if what == 0 {
         return wording::right(n, width, at, out);
@@ -53,23 +52,23 @@ fn word(
 }
 
 fn wide(octet: u8) -> usize
-    ensures { λ r. ⌜ r ≡ octet ⌝ }
+    ensures { result ≡ octet }
 {
     octet as usize
 }
 
 // Number `j` of a slot.
 fn slot_number(s: usize, j: usize) -> u8
-    requires { ⌜ (s ≤ 127) × (j ≤ 3) ⌝ }
-    ensures { λ r. ⌜ r ≡ slotNumber s j ⌝ }
+    requires { (s ≤ 127) × (j ≤ 3) }
+    ensures { result ≡ slot_number s j }
 {
     let slots = table::slots();
     octet_at(&slots, 4 * s + j)
 }
 
 fn slot(names: &[u8], run: &[u16], s: usize, at: usize, out: &mut [u8]) -> usize
-    requires { ⌜ s ≤ 127 ⌝ }
-    ensures { λ r. ⌜ Puts (slotText (now (names .entry)) (now (run .entry)) s) at (now (out .entry)) r (now (out .exit)) ⌝ }
+    requires { s ≤ 127 }
+    ensures { Puts (slot_text names.now run.now s) at out.old result out.new }
 {
     let n = number_at(run, wide(slot_number(s, 1)));
     let width = wide(slot_number(s, 2));
@@ -86,7 +85,7 @@ fn slot(names: &[u8], run: &[u16], s: usize, at: usize, out: &mut [u8]) -> usize
 
 // An octet under 128 is itself.
 fn piece(names: &[u8], run: &[u16], octet: u8, at: usize, out: &mut [u8]) -> usize
-    ensures { λ r. ⌜ Puts (pieceText (now (names .entry)) (now (run .entry)) octet) at (now (out .entry)) r (now (out .exit)) ⌝ }
+    ensures { Puts (piece_text names.now run.now octet) at out.old result out.new }
 {
     if octet < 128 {
         return wording::put(octet, at, out);
@@ -95,7 +94,7 @@ fn piece(names: &[u8], run: &[u16], octet: u8, at: usize, out: &mut [u8]) -> usi
 }
 
 fn fill(text: &[u8], names: &[u8], run: &[u16], at: usize, out: &mut [u8]) -> usize
-    ensures { λ r. ⌜ Puts (filled (now (names .entry)) (now (run .entry)) (now (text .entry))) at (now (out .entry)) r (now (out .exit)) ⌝ }
+    ensures { Puts (filled names.now run.now text.now) at out.old result out.new }
 {
     let mut to = at;
     let mut n = 0;
@@ -108,7 +107,7 @@ fn fill(text: &[u8], names: &[u8], run: &[u16], at: usize, out: &mut [u8]) -> us
 
 // The text that a section has for a number, with its slots filled.
 pub fn say(section: u8, number: u16, names: &[u8], run: &[u16], at: usize, out: &mut [u8]) -> usize
-    ensures { λ r. ⌜ Puts (said (now (names .entry)) (now (run .entry)) section number) at (now (out .entry)) r (now (out .exit)) ⌝ }
+    ensures { Puts (said names.now run.now section number) at out.old result out.new }
 {
     let octets = table::octets();
     fill(text(&octets, section, number), names, run, at, out)
@@ -116,7 +115,7 @@ pub fn say(section: u8, number: u16, names: &[u8], run: &[u16], at: usize, out: 
 
 // A message's name by its type.
 pub fn message_name(typ: u16, at: usize, out: &mut [u8]) -> usize
-    ensures { λ r. ⌜ Puts (textFor messages typ) at (now (out .entry)) r (now (out .exit)) ⌝ }
+    ensures { Puts (text_for messages typ) at out.old result out.new }
 {
     let octets = table::octets();
     wording::copy(text(&octets, 1, typ), at, out)

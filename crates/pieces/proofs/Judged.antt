@@ -1,57 +1,57 @@
 -- At the end stands what the judge says of the joined message, and on acceptance what it leaves in a table of zeros. Assumes nothing.
 --     fed-walks   the elements are those that the reading takes          fed-reading   checks 1 to 9
 --     pieces      verdict and table, however the octets are cut
-use mathlib.Core.Path.{_≡_, refl, sym, ap, _∙_}
-use mathlib.Core.Bool.{Bool, true, false, cond, not, _&&_, _||_}
-use mathlib.Core.List.{List, [], _∷_, _++_, append-assoc}
-use Prim.Native.Nat.{ℕ, zero, suc, _+_, _-_, _*_, _≤_, _<_}
+use mathlib.Core.Path.{◌≡◌, refl, sym, ap, ◌∙◌}
+use mathlib.Core.Bool.{Bool, true, false, cond, not, ◌&&◌, ◌||◌}
+use mathlib.Core.List.{List, [], ◌∷◌, ◌++◌, append_assoc}
+use Prim.Native.Nat.{ℕ, zero, suc, ◌+◌, ◌-◌, ◌*◌, ◌≤◌, ◌<◌}
 use native.Mathlib.Omega.{arith}
-use borrow.Author.Tests.{ltb-true, ltb-false, lt-ltb, le-ltb, ne-eqb}
+use borrow.Author.Tests.{ltb-true, ltb-false, lt-ltb, le-ltb, ne_eqb}
 use lib.Dec.{eqb, ltb}
 use lib.ListN.{length, take, drop, length-append, length-take, length-drop, length-replicate, take-append-drop}
-use lib.Seq.{getD-drop, length-take-le, drop-append-add, drop-at, drop-drop, take-at}
-use Rattle·rules.specs.Sizes.{largestMessage, headerNumbers, rowNumbers, used}
-use Rattle·rules.specs.Framing.{octet, flagT, lengthField, headerLength, messageType}
-use Rattle·rules.specs.Listings.{Message, book, messageOf}
-use Rattle·rules.specs.Standing.{fresh}
-use Rattle·rules.specs.Taking.{Out, cut, whole, walk, bodyLevel}
-use Rattle·rules.specs.Table.{rowsOf, tableOf, laid}
-use Rattle·rules.specs.Verdicts.{openingChecks, refused, refusedAt, check, refuses, first, headerChecks, framingChecks, judgeVerdict, judgeTable, items}
-use Rattle·rules.specs.Answers.{refusedReading, readingOf, readRows, Read}
-use Rattle·rules.specs.declared.Verdict.{Verdict}
-use Rattle·rules.specs.declared.Reading.{Reading}
-use Rattle·rules.proofs.Standings.{no-mark}
-use Rattle·rules.proofs.Header.{Passed, passed}
-use Rattle·rules.proofs.Rows.{Octets, rows-length}
-use Rattle·rules.proofs.Readings.{refusal-is, count-is, all-laid}
-use Rattle·taking.specs.Held.{Held, held, noCounts}
-use Rattle·reading.specs.Scan.{wholeReading, scan}
-use Rattle·reading.proofs.Endings.{ends-refused, ends-cut, ends-whole, rest-is}
-use Rattle·judging.specs.Judging.{given}
-use Rattle·judging.proofs.Deciding.{verdict-is}
-use Rattle·judging.proofs.Accepted.{Ready, ready}
-use Rattle·pieces·specs.specs.Steps.{Walking, eatAll, begin, outcome}
-use Rattle·pieces·specs.specs.Depth.{deepest, nests}
-use Rattle·pieces·specs.specs.Drafts.{Draft, plain, oneDraft, shutDraft, draftRows}
-use Rattle·pieces·specs.specs.Loose.{loose}
-use Rattle·pieces·specs.specs.Feeding.{Feed, idle, stateOf, outHeld, body, feedAll, feedParts, joinedParts, zeros, started, outReading, fedReading, fedVerdict, headed, fedTable}
-use Rattle·pieces·proofs.proofs.Depth.{body-nests}
-use Rattle·pieces·proofs.proofs.Steps.{begin-is}
-use Rattle·pieces·proofs.proofs.Backs.{Clean}
-use Rattle·pieces·proofs.proofs.Late.{Agrees, late-is}
-use Rattle·pieces·proofs.proofs.Feeding.{four-type, four-length, four-header, four-body, four-checks, own-length, counted, counted-low, counted-high, walkingAfter, feedAfter, parts-more}
+use lib.Seq.{get_or-drop, length-take-le, drop-append-add, drop_at, drop-drop, take_at}
+use Rattle.rules.specs.Sizes.{largest_message, header_numbers, row_numbers, used}
+use Rattle.rules.specs.Framing.{octet, flag_t, length_field, header_length, message_type}
+use Rattle.rules.specs.Listings.{Message, book, message_of}
+use Rattle.rules.specs.Standing.{fresh}
+use Rattle.rules.specs.Taking.{Out, cut, whole, walk, body_level}
+use Rattle.rules.specs.Table.{rows_of, table_of, laid}
+use Rattle.rules.specs.Verdicts.{opening_checks, refused, refused_at, check, refuses, first, header_checks, framing_checks, judge_verdict, judge_table, items}
+use Rattle.rules.specs.Answers.{refused_reading, reading_of, read_rows, Read}
+use Rattle.rules.specs.declared.Verdict.{Verdict}
+use Rattle.rules.specs.declared.Reading.{Reading}
+use Rattle.rules.proofs.Standings.{no_mark}
+use Rattle.rules.proofs.Header.{Passed, passed}
+use Rattle.rules.proofs.Rows.{Octets, rows-length}
+use Rattle.rules.proofs.Readings.{refusal_is, count_is, all_laid}
+use Rattle.taking.specs.Held.{Held, held, no_counts}
+use Rattle.reading.specs.Scan.{whole_reading, scan}
+use Rattle.reading.proofs.Endings.{ends-refused, ends-cut, ends-whole, rest-is}
+use Rattle.judging.specs.Judging.{given}
+use Rattle.judging.proofs.Deciding.{verdict_is}
+use Rattle.judging.proofs.Accepted.{Ready, ready}
+use Rattle.pieces.specs.Steps.{Walking, eat_all, begin, outcome}
+use Rattle.pieces.specs.Depth.{deepest, nests}
+use Rattle.pieces.specs.Drafts.{Draft, plain, one_draft, shut_draft, draft_rows}
+use Rattle.pieces.specs.Loose.{loose}
+use Rattle.pieces.specs.Feeding.{Feed, idle, state_of, out_held, body, feed_all, feed_parts, joined_parts, zeros, started, out_reading, fed_reading, fed_verdict, headed, fed_table}
+use Rattle.pieces.proofs.Depth.{body-nests}
+use Rattle.pieces.proofs.Steps.{begin-is}
+use Rattle.pieces.proofs.Backs.{Clean}
+use Rattle.pieces.proofs.Late.{Agrees, late_is}
+use Rattle.pieces.proofs.Feeding.{four_type, four-length, four-header, four-body, four_checks, own-length, counted, counted-low, counted-high, walking_after, feed_after, parts_more}
 
 -- ---- checks 1 to 8
 
-over : (k : ℕ) (m : List ℕ) → 4096 < length m → first (openingChecks book k m 4097) ≡ first (openingChecks book k m (length m))
+over : (k : ℕ) (m : List ℕ) → 4096 < length m → first (opening_checks book k m 4097) ≡ first (opening_checks book k m (length m))
 unfolding first check
-over k m l = rw (lt-ltb 4096 (length m) l, ne-eqb (length m) 0 (λ z. omega arith))
+over k m l = rw (lt-ltb 4096 (length m) l, ne_eqb (length m) 0 (λ z. omega arith))
 
 -- a count that stopped at the first number that is too large says the same
-pub count-enough : (k : ℕ) (m : List ℕ) → first (openingChecks book k m (counted (length m))) ≡ first (headerChecks book k m)
+pub count-enough : (k : ℕ) (m : List ℕ) → first (opening_checks book k m (counted (length m))) ≡ first (header_checks book k m)
 count-enough k m = go (ltb 4096 (length m)) refl
   where
-    go : (c : Bool) → ltb 4096 (length m) ≡ c → first (openingChecks book k m (counted (length m))) ≡ first (headerChecks book k m)
+    go : (c : Bool) → ltb 4096 (length m) ≡ c → first (opening_checks book k m (counted (length m))) ≡ first (header_checks book k m)
     go true e = let l : 4096 < length m = ltb-true _ _ e in rw (counted-high (length m) l) (over k m l ∙ ap first (own-length m book k))
     go false e = let l : length m ≤ 4096 = ltb-false _ _ e in rw (counted-low (length m) l) (ap first (own-length m book k))
 
@@ -59,233 +59,233 @@ count-enough k m = go (ltb 4096 (length m)) refl
 
 module _ (k : ℕ) (m rows : List ℕ) (clean : Clean 0 rows) where
   abbrev before : Draft
-  before = plain noCounts rows
+  before = plain no_counts rows
 
   abbrev fed : Feed
-  fed = feedAfter k before m
+  fed = feed_after k before m
 
-  checks-are : first (openingChecks book k (take 4 m) (counted (length m))) ≡ first (headerChecks book k m)
-  checks-are = ap first (four-checks m book k (counted (length m))) ∙ count-enough k m
+  checks_are : first (opening_checks book k (take 4 m) (counted (length m))) ≡ first (header_checks book k m)
+  checks_are = ap first (four_checks m book k (counted (length m))) ∙ count-enough k m
 
-  pub fed-refused : refuses (first (headerChecks book k m)) ≡ true → fedReading fed ≡ refusedReading (first (headerChecks book k m))
-  unfolding fedReading feedAfter
-  fed-refused e = rw (checks-are, e)
+  pub fed-refused : refuses (first (header_checks book k m)) ≡ true → fed_reading fed ≡ refused_reading (first (header_checks book k m))
+  unfolding fed_reading feed_after
+  fed-refused e = rw (checks_are, e)
 
-  module _ (ok : refuses (first (headerChecks book k m)) ≡ false) where
+  module _ (ok : refuses (first (header_checks book k m)) ≡ false) where
     pass : Passed book k m
     pass = passed book k m ok
 
     abbrev size : ℕ
-    size = length m - headerLength m
+    size = length m - header_length m
 
-    said : lengthField (take 4 m) + 4 ≡ length m
-    said = rw (four-length m) (pass .length-right)
+    said : length_field (take 4 m) + 4 ≡ length m
+    said = rw (four-length m) pass.length_right
 
-    four-ok : refuses (first (openingChecks book k (take 4 m) (lengthField (take 4 m) + 4))) ≡ false
+    four-ok : refuses (first (opening_checks book k (take 4 m) (length_field (take 4 m) + 4))) ≡ false
     four-ok =
-        ap (λ (n : ℕ). refuses (first (openingChecks book k (take 4 m) n))) said
-        ∙ ap (λ (vs : List Verdict). refuses (first vs)) (four-checks m book k (length m) ∙ own-length m book k) ∙ ok
+        ap (λ (n : ℕ). refuses (first (opening_checks book k (take 4 m) n))) said
+        ∙ ap (λ (vs : List Verdict). refuses (first vs)) (four_checks m book k (length m) ∙ own-length m book k) ∙ ok
 
-    body-is : body k (take 4 m) before ≡ begin book k Draft oneDraft (shutDraft k) draftRows deepest (bodyLevel book m) (headerLength m) size before
+    body_is : body k (take 4 m) before ≡ begin book k Draft one_draft (shut_draft k) draft_rows deepest (body_level book m) (header_length m) size before
     unfolding body
-    body-is = rw (four-ok, said, four-body m, four-header m)
+    body_is = rw (four-ok, said, four-body m, four-header m)
 
-    deep : nests book deepest (bodyLevel book m) ≡ true
-    unfolding bodyLevel
-    deep = body-nests (messageType m)
+    deep : nests book deepest (body_level book m) ≡ true
+    unfolding body_level
+    deep = body-nests (message_type m)
 
-    fed-walks : outHeld k (walkingAfter k before m) ≡ walk (loose book) k Draft oneDraft (shutDraft k) draftRows (bodyLevel book m) fresh 0 0 (headerLength m) (drop (headerLength m) m) before
-    unfolding walkingAfter
+    fed-walks : out_held k (walking_after k before m) ≡ walk (loose book) k Draft one_draft (shut_draft k) draft_rows (body_level book m) fresh 0 0 (header_length m) (drop (header_length m) m) before
+    unfolding walking_after
     fed-walks =
-        rw (le-ltb (length m) (headerLength m) (pass .has-header), body-is)
-        (begin-is book k Draft oneDraft (shutDraft k) draftRows deepest (bodyLevel book m) (headerLength m) size before (drop (headerLength m) m)
+        rw (le-ltb (length m) (header_length m) pass.has_header, body_is)
+        (begin-is book k Draft one_draft (shut_draft k) draft_rows deepest (body_level book m) (header_length m) size before (drop (header_length m) m)
         (simp length-drop (omega arith)) deep
-        ∙ rw (rest-is m (headerLength m)))
+        ∙ rw (rest-is m (header_length m)))
 
     abbrev out : Out Draft
-    out = outHeld k (walkingAfter k before m)
+    out = out_held k (walking_after k before m)
 
     abbrev scanned : Out Held
-    scanned = scan k (bodyLevel book m) fresh 0 0 (headerLength m) (drop (headerLength m) m) (held noCounts rows)
+    scanned = scan k (body_level book m) fresh 0 0 (header_length m) (drop (header_length m) m) (held no_counts rows)
 
     -- and that is what the reading comes to
     agrees : Agrees out scanned
     agrees =
         rw fed-walks
-        (late-is k (bodyLevel book m) fresh 0 0 (headerLength m) (drop (headerLength m) m) before (held noCounts rows)
+        (late_is k (body_level book m) fresh 0 0 (header_length m) (drop (header_length m) m) before (held no_counts rows)
         (record { counts = refl; rows = refl; free = refl; clean = clean }))
 
     -- with the rows that a whole walk leaves
-    walk-read : Octets m → (o : Out Draft) (r : Out Held) → Agrees o r → scanned ≡ r → (rows′ : List ℕ) × Read k m rows (outReading o) rows′ × (o ≡ whole (stateOf o) → rows′ ≡ stateOf o .rows)
-    unfolding outReading
-    walk-read oct (cut q s) (cut q′ t) e w = (t .rows, rw e (ends-cut k m rows ok q′ t w), λ z. absurd (never-whole q s z))
+    walk-read : Octets m → (o : Out Draft) (r : Out Held) → Agrees o r → scanned ≡ r → (rows' : List ℕ) × Read k m rows (out_reading o) rows' × (o ≡ whole (state_of o) → rows' ≡ (state_of o).rows)
+    unfolding out_reading
+    walk-read oct (cut q s) (cut q' t) e w = (t.rows, rw e (ends-cut k m rows ok q' t w), λ z. absurd (never-whole q s z))
       where
         never-whole : (q : ℕ) (s : Draft) → cut q s ≡ whole s → ⊥
-        never-whole q s z = let y : _≡_ {A = ℕ} 0 1 = cc in omega arith
+        never-whole q s z = let y : ◌≡◌ {A = ℕ} 0 1 = cc in omega arith
     walk-read oct (cut q s) (whole t) e w = absurd e
     walk-read oct (whole s) (cut q t) e w = absurd e
-    walk-read oct (whole s) (whole t) e w = (t .rows, rw (e .counts) (ends-whole k m rows ok t w oct), λ z. sym (e .rows))
+    walk-read oct (whole s) (whole t) e w = (t.rows, rw e.counts (ends-whole k m rows ok t w oct), λ z. sym e.rows)
 
-    pub fed-passed : fedReading fed ≡ outReading out
-    unfolding fedReading feedAfter
-    fed-passed = rw (checks-are, ok)
+    pub fed-passed : fed_reading fed ≡ out_reading out
+    unfolding fed_reading feed_after
+    fed-passed = rw (checks_are, ok)
 
-    pub fed-reads : Octets m → (rows′ : List ℕ) × Read k m rows (fedReading fed) rows′ × (out ≡ whole (stateOf out) → rows′ ≡ stateOf out .rows)
+    pub fed-reads : Octets m → (rows' : List ℕ) × Read k m rows (fed_reading fed) rows' × (out ≡ whole (state_of out) → rows' ≡ (state_of out).rows)
     fed-reads oct = rw fed-passed (walk-read oct out scanned agrees refl)
 
-  some-read : Octets m → (c : Bool) → refuses (first (headerChecks book k m)) ≡ c → (rows′ : List ℕ) × Read k m rows (fedReading fed) rows′
-  some-read oct true e = (rows, ends-refused k m rows (first (headerChecks book k m)) (fedReading fed) refl e (fed-refused e))
-  some-read oct false e = let r = fed-reads e oct in (r .0, r .1)
+  some_read : Octets m → (c : Bool) → refuses (first (header_checks book k m)) ≡ c → (rows' : List ℕ) × Read k m rows (fed_reading fed) rows'
+  some_read oct true e = (rows, ends-refused k m rows (first (header_checks book k m)) (fed_reading fed) refl e (fed-refused e))
+  some_read oct false e = let r = fed-reads e oct in (r.0, r.1)
 
   -- ---- the verdict
 
-  pub fed-verdict : (room : ℕ) → Octets m → fedVerdict fed room ≡ judgeVerdict book k m room
+  pub fed-verdict : (room : ℕ) → Octets m → fed_verdict fed room ≡ judge_verdict book k m room
   fed-verdict room oct =
-      let r = some-read oct (refuses (first (headerChecks book k m))) refl in
-      verdict-is k m room (r .1)
+      let r = some_read oct (refuses (first (header_checks book k m))) refl in
+      verdict_is k m room r.1
 
 -- a reading that is refused is refused by the verdict on it
-given-refuses : (v : Verdict) (room : ℕ) → refuses v ≡ true → refuses (given (refusedReading v) room) ≡ true
+given-refuses : (v : Verdict) (room : ℕ) → refuses v ≡ true → refuses (given (refused_reading v) room) ≡ true
 unfolding given first
 given-refuses v room e = rw e e
 
-full : (r : Reading) (room : ℕ) → r .refusal .code ≡ 0 → ltb room (used (r .rows)) ≡ true → refuses (given r room) ≡ true
+full : (r : Reading) (room : ℕ) → r.refusal.code ≡ 0 → ltb room (used r.rows) ≡ true → refuses (given r room) ≡ true
 unfolding given first check
 full r room z e = rw (z, e)
 
-given-fits : (r : Reading) (room : ℕ) → r .refusal .code ≡ 0 → refuses (given r room) ≡ false → used (r .rows) ≤ room
-given-fits r room z e = go (ltb room (used (r .rows))) refl e
+given-fits : (r : Reading) (room : ℕ) → r.refusal.code ≡ 0 → refuses (given r room) ≡ false → used r.rows ≤ room
+given-fits r room z e = go (ltb room (used r.rows)) refl e
   where
-    go : (c : Bool) → ltb room (used (r .rows)) ≡ c → refuses (given r room) ≡ false → used (r .rows) ≤ room
+    go : (c : Bool) → ltb room (used r.rows) ≡ c → refuses (given r room) ≡ false → used r.rows ≤ room
     go false f g = ltb-false _ _ f
     go true f g = absurd (never (full r room z f) g)
       where
         never : refuses (given r room) ≡ true → refuses (given r room) ≡ false → ⊥
-        never a d = let y : _≡_ {A = ℕ} 0 1 = cc in omega arith
+        never a d = let y : ◌≡◌ {A = ℕ} 0 1 = cc in omega arith
 
 -- ---- the table
 
 -- a table of zeros has no row
-pub blank-clean : (room : ℕ) → Clean 0 (drop headerNumbers (zeros room))
-blank-clean room = record { none = λ j l. getD-drop headerNumbers (zeros room) j 0 ∙ no-mark room (headerNumbers + j) }
+pub blank-clean : (room : ℕ) → Clean 0 (drop header_numbers (zeros room))
+blank-clean room = record { none = λ j l. get_or-drop header_numbers (zeros room) j 0 ∙ no_mark room (header_numbers + j) }
 
 module _ (k room : ℕ) (m : List ℕ) (oct : Octets m) where
   abbrev blank : List ℕ
-  blank = drop headerNumbers (zeros room)
+  blank = drop header_numbers (zeros room)
 
   -- every number of it is zero
   pub clean : Clean 0 blank
   clean = blank-clean room
 
   abbrev after : Feed
-  after = feedAfter k (plain noCounts blank) m
+  after = feed_after k (plain no_counts blank) m
 
   -- on acceptance: the header over the rows is the judge's table
-  module _ (ok : refuses (first (headerChecks book k m)) ≡ false) (s : Draft) (w : outHeld k (walkingAfter k (plain noCounts blank) m) ≡ whole s)
-      (acc : refuses (fedVerdict after room) ≡ false) where
-    reading-is : fedReading after ≡ wholeReading (s .counts)
-    unfolding outReading
-    reading-is = fed-passed k m blank clean ok ∙ rw w
+  module _ (ok : refuses (first (header_checks book k m)) ≡ false) (s : Draft) (w : out_held k (walking_after k (plain no_counts blank) m) ≡ whole s)
+      (acc : refuses (fed_verdict after room) ≡ false) where
+    reading_is : fed_reading after ≡ whole_reading s.counts
+    unfolding out_reading
+    reading_is = fed-passed k m blank clean ok ∙ rw w
 
-    read : Read k m blank (wholeReading (s .counts)) (s .rows)
+    read : Read k m blank (whole_reading s.counts) s.rows
     read =
         let r = fed-reads k m blank clean ok oct in
-        let e : r .0 ≡ s .rows = r .2 (w ∙ ap (λ (o : Out Draft). whole (stateOf o)) (sym w)) ∙ ap (λ (o : Out Draft). stateOf o .rows) w in
-        rw (reading-is, e) at (r .1)
+        let e : r.0 ≡ s.rows = r.2 (w ∙ ap (λ (o : Out Draft). whole (state_of o)) (sym w)) ∙ ap (λ (o : Out Draft). (state_of o).rows) w in
+        rw (reading_is, e) at r.1
 
-    fits : used (s .counts .rows) ≤ room
-    unfolding wholeReading
-    fits = given-fits (wholeReading (s .counts)) room refl (rw reading-is at acc)
+    fits : used s.counts.rows ≤ room
+    unfolding whole_reading
+    fits = given-fits (whole_reading s.counts) room refl (rw reading_is at acc)
 
-    blank-length : length blank ≡ room - headerNumbers
-    blank-length = length-drop headerNumbers (zeros room) ∙ rw (length-replicate {A = ℕ} room 0)
+    blank-length : length blank ≡ room - header_numbers
+    blank-length = length-drop header_numbers (zeros room) ∙ rw (length-replicate {A = ℕ} room 0)
 
-    accept : refuses (judgeVerdict book k m room) ≡ false
-    accept = rw (← verdict-is k m room read) (rw reading-is at acc)
+    accept : refuses (judge_verdict book k m room) ≡ false
+    accept = rw (← verdict_is k m room read) (rw reading_is at acc)
 
-    held-all : rowNumbers * wholeReading (s .counts) .rows ≤ length blank
-    unfolding wholeReading
-    held-all = omega (arith, fits, blank-length)
+    held_all : row_numbers * (whole_reading s.counts).rows ≤ length blank
+    unfolding whole_reading
+    held_all = omega (arith, fits, blank-length)
 
-    there : Ready k m (s .rows) room (wholeReading (s .counts))
-    there = ready k m read room accept held-all
+    there : Ready k m s.rows room (whole_reading s.counts)
+    there = ready k m read room accept held_all
 
-    framing : refuses (first (framingChecks book k m)) ≡ false
-    unfolding wholeReading
+    framing : refuses (first (framing_checks book k m)) ≡ false
+    unfolding whole_reading
     framing =
-        let e : wholeReading (s .counts) .refusal ≡ first (framingChecks book k m) = ap (λ (r : Reading). r .refusal) (read .answers) ∙ refusal-is book k m in
+        let e : (whole_reading s.counts).refusal ≡ first (framing_checks book k m) = ap (λ (r : Reading). r.refusal) read.answers ∙ refusal_is book k m in
         rw (← e)
 
-    rows-are : readingOf book k m .rows ≡ s .counts .rows
-    unfolding wholeReading
-    rows-are = ap (λ (r : Reading). r .rows) (sym (read .answers))
+    rows_are : (reading_of book k m).rows ≡ s.counts.rows
+    unfolding whole_reading
+    rows_are = ap (λ (r : Reading). r.rows) (sym read.answers)
 
-    many-are : length (rowsOf (items book k m)) ≡ 6 * s .counts .rows
-    many-are = omega (arith, rows-length (items book k m), count-is book k m framing, rows-are)
+    many_are : length (rows_of (items book k m)) ≡ 6 * s.counts.rows
+    many_are = omega (arith, rows-length (items book k m), count_is book k m framing, rows_are)
 
-    rows-laid : s .rows ≡ rowsOf (items book k m) ++ drop (length (rowsOf (items book k m))) blank
+    rows-laid : s.rows ≡ rows_of (items book k m) ++ drop (length (rows_of (items book k m))) blank
     unfolding laid
-    rows-laid = read .rows-left ∙ all-laid book k m framing blank (omega (arith, rows-are, fits, blank-length))
+    rows-laid = read.rows_left ∙ all_laid book k m framing blank (omega (arith, rows_are, fits, blank-length))
 
-    past-rows : drop (6 * s .counts .rows) (s .rows) ≡ drop (6 + 6 * s .counts .rows) (zeros room)
+    past-rows : drop (6 * s.counts.rows) s.rows ≡ drop (6 + 6 * s.counts.rows) (zeros room)
     past-rows =
-        ap (drop (6 * s .counts .rows)) rows-laid
-        ∙ drop-at (rowsOf (items book k m)) (drop (length (rowsOf (items book k m))) blank) (6 * s .counts .rows) many-are
-        ∙ rw many-are (drop-drop (6 * s .counts .rows) 6 (zeros room))
+        ap (drop (6 * s.counts.rows)) rows-laid
+        ∙ drop_at (rows_of (items book k m)) (drop (length (rows_of (items book k m))) blank) (6 * s.counts.rows) many_are
+        ∙ rw many_are (drop-drop (6 * s.counts.rows) 6 (zeros room))
 
-    pub table-is : headed (messageType m) k s ≡ laid (tableOf (messageType m) k (items book k m)) (zeros room)
-    unfolding laid wholeReading messageType
-    table-is =
-        let l : length (take (6 * s .counts .rows) (s .rows)) ≡ 6 * s .counts .rows = length-take-le (6 * s .counts .rows) (s .rows) (there .there) in
-        let e : suc (suc (suc (suc (suc (suc (6 * s .counts .rows)))))) ≡ 6 + 6 * s .counts .rows = omega arith in
-        let q : s .rows ≡ take (6 * s .counts .rows) (s .rows) ++ drop (6 + 6 * s .counts .rows) (zeros room)
-        = sym (take-append-drop (6 * s .counts .rows) (s .rows)) ∙ ap (λ (t : List ℕ). take (6 * s .counts .rows) (s .rows) ++ t) past-rows in
-        rw (← there .numbers, l, e)
-        (ap (λ (t : List ℕ). s .counts .rows ∷ s .counts .kept ∷ headerNumbers ∷ used (s .counts .rows) ∷ messageType m ∷ k ∷ t) q)
+    pub table_is : headed (message_type m) k s ≡ laid (table_of (message_type m) k (items book k m)) (zeros room)
+    unfolding laid whole_reading message_type
+    table_is =
+        let l : length (take (6 * s.counts.rows) s.rows) ≡ 6 * s.counts.rows = length-take-le (6 * s.counts.rows) s.rows there.there in
+        let e : suc (suc (suc (suc (suc (suc (6 * s.counts.rows)))))) ≡ 6 + 6 * s.counts.rows = omega arith in
+        let q : s.rows ≡ take (6 * s.counts.rows) s.rows ++ drop (6 + 6 * s.counts.rows) (zeros room)
+        = sym (take-append-drop (6 * s.counts.rows) s.rows) ∙ ap (λ (t : List ℕ). take (6 * s.counts.rows) s.rows ++ t) past-rows in
+        rw (← there.numbers, l, e)
+        (ap (λ (t : List ℕ). s.counts.rows ∷ s.counts.kept ∷ header_numbers ∷ used s.counts.rows ∷ message_type m ∷ k ∷ t) q)
 
   clash : (v : Verdict) → refuses v ≡ true → refuses v ≡ false → ⊥
-  clash v a d = let y : _≡_ {A = ℕ} 0 1 = cc in omega arith
+  clash v a d = let y : ◌≡◌ {A = ℕ} 0 1 = cc in omega arith
 
-  by-out : (ok : refuses (first (headerChecks book k m)) ≡ false) → refuses (fedVerdict after room) ≡ false → (o : Out Draft)
-      → outHeld k (walkingAfter k (plain noCounts blank) m) ≡ o → headed (messageType m) k (stateOf o) ≡ laid (tableOf (messageType m) k (items book k m)) (zeros room)
-  unfolding outReading
-  by-out ok acc (cut q s) w =
-      let e : fedReading after ≡ refusedReading (refusedAt 9 67 q 0 0) = fed-passed k m blank clean ok ∙ rw w in
-      absurd (clash (fedVerdict after room) (rw e (given-refuses (refusedAt 9 67 q 0 0) room refl)) acc)
-  by-out ok acc (whole s) w = table-is ok s w acc
+  by_out : (ok : refuses (first (header_checks book k m)) ≡ false) → refuses (fed_verdict after room) ≡ false → (o : Out Draft)
+      → out_held k (walking_after k (plain no_counts blank) m) ≡ o → headed (message_type m) k (state_of o) ≡ laid (table_of (message_type m) k (items book k m)) (zeros room)
+  unfolding out_reading
+  by_out ok acc (cut q s) w =
+      let e : fed_reading after ≡ refused_reading (refused_at 9 67 q 0 0) = fed-passed k m blank clean ok ∙ rw w in
+      absurd (clash (fed_verdict after room) (rw e (given-refuses (refused_at 9 67 q 0 0) room refl)) acc)
+  by_out ok acc (whole s) w = table_is ok s w acc
 
-  by-header : refuses (fedVerdict after room) ≡ false → (c : Bool) → refuses (first (headerChecks book k m)) ≡ c
-      → headed (messageType m) k (stateOf (outHeld k (walkingAfter k (plain noCounts blank) m))) ≡ laid (tableOf (messageType m) k (items book k m)) (zeros room)
-  by-header acc true e = absurd (clash (fedVerdict after room) (rw (fed-refused k m blank clean e) (given-refuses (first (headerChecks book k m)) room e)) acc)
-  by-header acc false e = by-out e acc (outHeld k (walkingAfter k (plain noCounts blank) m)) refl
+  by-header : refuses (fed_verdict after room) ≡ false → (c : Bool) → refuses (first (header_checks book k m)) ≡ c
+      → headed (message_type m) k (state_of (out_held k (walking_after k (plain no_counts blank) m))) ≡ laid (table_of (message_type m) k (items book k m)) (zeros room)
+  by-header acc true e = absurd (clash (fed_verdict after room) (rw (fed-refused k m blank clean e) (given-refuses (first (header_checks book k m)) room e)) acc)
+  by-header acc false e = by_out e acc (out_held k (walking_after k (plain no_counts blank) m)) refl
 
-  pub fed-table : fedTable after room ≡ judgeTable book k m (zeros room)
-  unfolding fedTable judgeTable feedAfter
-  fed-table = go (refuses (fedVerdict after room)) refl
+  pub fed-table : fed_table after room ≡ judge_table book k m (zeros room)
+  unfolding fed_table judge_table feed_after
+  fed-table = go (refuses (fed_verdict after room)) refl
     where
-      same : fedVerdict after room ≡ judgeVerdict book k m (length (zeros room))
+      same : fed_verdict after room ≡ judge_verdict book k m (length (zeros room))
       same = fed-verdict k m blank clean room oct ∙ rw (length-replicate {A = ℕ} room 0)
 
-      go : (c : Bool) → refuses (fedVerdict after room) ≡ c
-          → cond (refuses (fedVerdict after room)) (zeros room) (headed (messageType (take 4 m)) k (stateOf (outHeld k (walkingAfter k (plain noCounts blank) m)))) ≡ judgeTable book k m (zeros room)
-      go true e = let f : refuses (judgeVerdict book k m (length (zeros room))) ≡ true = rw same at e in rw (e, f)
-      go false e = let f : refuses (judgeVerdict book k m (length (zeros room))) ≡ false = rw same at e in rw (e, f, four-type m) (by-header e (refuses (first (headerChecks book k m))) refl)
+      go : (c : Bool) → refuses (fed_verdict after room) ≡ c
+          → cond (refuses (fed_verdict after room)) (zeros room) (headed (message_type (take 4 m)) k (state_of (out_held k (walking_after k (plain no_counts blank) m)))) ≡ judge_table book k m (zeros room)
+      go true e = let f : refuses (judge_verdict book k m (length (zeros room))) ≡ true = rw same at e in rw (e, f)
+      go false e = let f : refuses (judge_verdict book k m (length (zeros room))) ≡ false = rw same at e in rw (e, f, four_type m) (by-header e (refuses (first (header_checks book k m))) refl)
 
 -- ---- however the octets are cut
 
-pub start-is : (k : ℕ) (table : List ℕ) → started k table ≡ feedAfter k (plain noCounts (drop headerNumbers table)) []
-unfolding started feedAfter walkingAfter headerLength flagT counted
-start-is k table = refl
+pub start_is : (k : ℕ) (table : List ℕ) → started k table ≡ feed_after k (plain no_counts (drop header_numbers table)) []
+unfolding started feed_after walking_after header_length flag_t counted
+start_is k table = refl
 
 -- a message that came in the parts ps, to a table of so many numbers
 pub record Came (k room : ℕ) (ps : List (List ℕ)) : Type 0 where
-  pub verdict : fedVerdict (feedParts (started k (zeros room)) ps) room ≡ judgeVerdict book k (joinedParts ps) room
-  pub table : fedTable (feedParts (started k (zeros room)) ps) room ≡ judgeTable book k (joinedParts ps) (zeros room)
+  pub verdict : fed_verdict (feed_parts (started k (zeros room)) ps) room ≡ judge_verdict book k (joined_parts ps) room
+  pub table : fed_table (feed_parts (started k (zeros room)) ps) room ≡ judge_table book k (joined_parts ps) (zeros room)
 
-pub pieces : (k room : ℕ) (ps : List (List ℕ)) → Octets (joinedParts ps) → Came k room ps
+pub pieces : (k room : ℕ) (ps : List (List ℕ)) → Octets (joined_parts ps) → Came k room ps
 pieces k room ps oct =
-    let e : feedParts (started k (zeros room)) ps ≡ feedAfter k (plain noCounts (drop headerNumbers (zeros room))) (joinedParts ps)
-    = ap (λ (f : Feed). feedParts f ps) (start-is k (zeros room)) ∙ parts-more k (plain noCounts (drop headerNumbers (zeros room))) [] ps in record {
-      verdict = rw e (fed-verdict k (joinedParts ps) (drop headerNumbers (zeros room)) (blank-clean room) room oct);
-      table = rw e (fed-table k room (joinedParts ps) oct);
+    let e : feed_parts (started k (zeros room)) ps ≡ feed_after k (plain no_counts (drop header_numbers (zeros room))) (joined_parts ps)
+    = ap (λ (f : Feed). feed_parts f ps) (start_is k (zeros room)) ∙ parts_more k (plain no_counts (drop header_numbers (zeros room))) [] ps in record {
+      verdict = rw e (fed-verdict k (joined_parts ps) (drop header_numbers (zeros room)) (blank-clean room) room oct);
+      table = rw e (fed-table k room (joined_parts ps) oct);
     }

@@ -1,33 +1,30 @@
 -- A message as it comes, one octet at a time: what is held between two octets, what one more does, and what the end says. Assumes nothing.
-use Prim.Native.Nat.{ℕ, suc, _+_, _-_}
-use mathlib.Core.Bool.{Bool, true, false, cond, not, _&&_, _||_, Bool·beq}
-use mathlib.Core.List.{List, [], _∷_, _++_}
-use lib.Dec.{eqb, ltb}
-use lib.ListN.{length, drop, replicate}
-use Rattle·rules.specs.Sizes.{largestMessage, headerNumbers, used}
-use Rattle·rules.specs.Framing.{version, flagP, flagT, messageType, lengthField, headerLength}
-use Rattle·rules.specs.Types.{among}
-use Rattle·rules.specs.Listings.{Book, Message, book, isMessage, messageOf}
-use Rattle·rules.specs.Taking.{Out, cut, whole, bodyLevel}
-use Rattle·rules.specs.Verdicts.{openingChecks, refused, refusedAt, invalidLength, check, refuses, first}
-use Rattle·rules.specs.Answers.{refusedReading}
-use Rattle·rules.specs.declared.Verdict.{Verdict}
-use Rattle·rules.specs.declared.Reading.{Reading}
-use Rattle·taking.specs.Held.{noCounts}
-use Rattle·reading.specs.Scan.{wholeReading}
-use Rattle·judging.specs.Judging.{given}
-use Rattle·pieces·specs.specs.declared.Open.{Open}
-use Rattle·pieces·specs.specs.Steps.{Walking, stopped, going, eat, begin, outcome}
-use Rattle·pieces·specs.specs.Depth.{deepest}
-use Rattle·pieces·specs.specs.Drafts.{Draft, plain, oneDraft, shutDraft, draftRows}
+use Rattle.std.specs.Prelude.{ℕ, suc, ◌+◌, ◌-◌, Bool, true, false, cond, not, ◌&&◌, ◌||◌, List, [], ◌∷◌, ◌++◌, eqb, ltb, length, drop, replicate}
+use Rattle.std.specs.Bool.{beq}
+use Rattle.rules.specs.Sizes.{largest_message, header_numbers, used}
+use Rattle.rules.specs.Framing.{version, flag_p, flag_t, message_type, length_field, header_length}
+use Rattle.rules.specs.Types.{among}
+use Rattle.rules.specs.Listings.{Book, Message, book, is_message, message_of}
+use Rattle.rules.specs.Taking.{Out, cut, whole, body_level}
+use Rattle.rules.specs.Verdicts.{opening_checks, refused, refused_at, invalid_length, check, refuses, first}
+use Rattle.rules.specs.Answers.{refused_reading}
+use Rattle.rules.specs.declared.Verdict.{Verdict}
+use Rattle.rules.specs.declared.Reading.{Reading}
+use Rattle.taking.specs.Held.{no_counts}
+use Rattle.reading.specs.Scan.{whole_reading}
+use Rattle.judging.specs.Judging.{given}
+use Rattle.pieces.specs.declared.Open.{Open}
+use Rattle.pieces.specs.Steps.{Walking, stopped, going, eat, begin, outcome}
+use Rattle.pieces.specs.Depth.{deepest}
+use Rattle.pieces.specs.Drafts.{Draft, plain, one_draft, shut_draft, draft_rows}
 
 -- the octets of a message's start that are held
-abbrev pub headOctets : ℕ
-headOctets = 4
+abbrev pub head_octets : ℕ
+head_octets = 4
 
 -- Octets past 4,096 are only counted, and the count stays at the first number that is too large.
-unfoldable pub countOn : ℕ → ℕ
-countOn n = cond (ltb largestMessage n) n (suc n)
+unfoldable pub count_on : ℕ → ℕ
+count_on n = cond (ltb largest_message n) n (suc n)
 
 -- between two octets: the kind, the first octets of the message, how many have come, and what is made of the elements
 pub record Feed : Type 0 where
@@ -37,16 +34,16 @@ pub record Feed : Type 0 where
   pub walking : Walking Draft
 
 -- what is held at an outcome
-abbrev pub stateOf : {S : Type 0} → Out S → S
-stateOf (cut q s) = s
-stateOf (whole s) = s
+abbrev pub state_of : {S : Type 0} → Out S → S
+state_of (cut q s) = s
+state_of (whole s) = s
 
 module _ (k : ℕ) where
-  abbrev pub eatHeld : Walking Draft → ℕ → Walking Draft
-  eatHeld = eat book k Draft oneDraft (shutDraft k) draftRows deepest
+  abbrev pub eat_held : Walking Draft → ℕ → Walking Draft
+  eat_held = eat book k Draft one_draft (shut_draft k) draft_rows deepest
 
-  abbrev pub outHeld : Walking Draft → Out Draft
-  outHeld = outcome book k Draft oneDraft (shutDraft k) draftRows deepest
+  abbrev pub out_held : Walking Draft → Out Draft
+  out_held = outcome book k Draft one_draft (shut_draft k) draft_rows deepest
 
   -- nothing is walked
   abbrev pub idle : Draft → Walking Draft
@@ -55,40 +52,40 @@ module _ (k : ℕ) where
   -- the elements begin, if the message will pass checks 1 to 8 with the length that its header says
   unfoldable pub body : List ℕ → Draft → Walking Draft
   body h s =
-      cond (refuses (first (openingChecks book k h (lengthField h + 4)))) (idle s)
-      (begin book k Draft oneDraft (shutDraft k) draftRows deepest (bodyLevel book h) (headerLength h) (lengthField h + 4 - headerLength h) s)
+      cond (refuses (first (opening_checks book k h (length_field h + 4)))) (idle s)
+      (begin book k Draft one_draft (shut_draft k) draft_rows deepest (body_level book h) (header_length h) (length_field h + 4 - header_length h) s)
 
 -- one more octet of the header
-unfoldable pub headOn : List ℕ → ℕ → ℕ → List ℕ
-headOn h n x = cond (ltb n headOctets) (h ++ (x ∷ [])) h
+unfoldable pub head_on : List ℕ → ℕ → ℕ → List ℕ
+head_on h n x = cond (ltb n head_octets) (h ++ (x ∷ [])) h
 
-unfoldable pub inHeader : ℕ → List ℕ → ℕ → Walking Draft → Feed
-inHeader k h n w = record {
+unfoldable pub in_header : ℕ → List ℕ → ℕ → Walking Draft → Feed
+in_header k h n w = record {
   kind = k;
   head = h;
   count = n;
-  walking = cond (eqb n (headerLength h)) (body k h (stateOf (outHeld k w))) w;
+  walking = cond (eqb n (header_length h)) (body k h (state_of (out_held k w))) w;
 }
 
 unfoldable pub feed : Feed → ℕ → Feed
 feed f x =
-    cond (ltb (f .count) (headerLength (f .head)))
-    (inHeader (f .kind) (headOn (f .head) (f .count) x) (suc (f .count)) (f .walking))
-    (record { kind = f .kind; head = f .head; count = countOn (f .count); walking = eatHeld (f .kind) (f .walking) x })
+    cond (ltb f.count (header_length f.head))
+    (in_header f.kind (head_on f.head f.count x) (suc f.count) f.walking)
+    (record { kind = f.kind; head = f.head; count = count_on f.count; walking = eat_held f.kind f.walking x })
 
-unfoldable pub feedAll : Feed → List ℕ → Feed
-feedAll f [] = f
-feedAll f (x ∷ xs) = feedAll (feed f x) xs
+unfoldable pub feed_all : Feed → List ℕ → Feed
+feed_all f [] = f
+feed_all f (x ∷ xs) = feed_all (feed f x) xs
 
 -- part after part
-unfoldable pub feedParts : Feed → List (List ℕ) → Feed
-feedParts f [] = f
-feedParts f (p ∷ ps) = feedParts (feedAll f p) ps
+unfoldable pub feed_parts : Feed → List (List ℕ) → Feed
+feed_parts f [] = f
+feed_parts f (p ∷ ps) = feed_parts (feed_all f p) ps
 
 -- the message that they join to
-unfoldable pub joinedParts : List (List ℕ) → List ℕ
-joinedParts [] = []
-joinedParts (p ∷ ps) = p ++ joinedParts ps
+unfoldable pub joined_parts : List (List ℕ) → List ℕ
+joined_parts [] = []
+joined_parts (p ∷ ps) = p ++ joined_parts ps
 
 -- ---- the start: the table is zero
 
@@ -97,26 +94,26 @@ zeros room = replicate room 0
 
 -- with a table, whose rows stand after its header
 unfoldable pub started : ℕ → List ℕ → Feed
-started k table = record { kind = k; head = []; count = 0; walking = idle k (plain noCounts (drop headerNumbers table)) }
+started k table = record { kind = k; head = []; count = 0; walking = idle k (plain no_counts (drop header_numbers table)) }
 
 -- ---- the end
 
-unfoldable pub outReading : Out Draft → Reading
-outReading (cut q s) = refusedReading (refusedAt 9 67 q 0 0)
-outReading (whole s) = wholeReading (s .counts)
+unfoldable pub out_reading : Out Draft → Reading
+out_reading (cut q s) = refused_reading (refused_at 9 67 q 0 0)
+out_reading (whole s) = whole_reading s.counts
 
 -- checks 1 to 9
-unfoldable pub fedReading : Feed → Reading
-fedReading f =
-    cond (refuses (first (openingChecks book (f .kind) (f .head) (f .count)))) (refusedReading (first (openingChecks book (f .kind) (f .head) (f .count))))
-    (outReading (outHeld (f .kind) (f .walking)))
+unfoldable pub fed_reading : Feed → Reading
+fed_reading f =
+    cond (refuses (first (opening_checks book f.kind f.head f.count))) (refused_reading (first (opening_checks book f.kind f.head f.count)))
+    (out_reading (out_held f.kind f.walking))
 
-abbrev pub fedVerdict : Feed → ℕ → Verdict
-fedVerdict f room = given (fedReading f) room
+abbrev pub fed_verdict : Feed → ℕ → Verdict
+fed_verdict f room = given (fed_reading f) room
 
 -- rows, kept rows, place of the first row, numbers used, message type, kind; then the rows
 abbrev pub headed : ℕ → ℕ → Draft → List ℕ
-headed typ k s = s .counts .rows ∷ s .counts .kept ∷ headerNumbers ∷ used (s .counts .rows) ∷ typ ∷ k ∷ s .rows
+headed typ k s = s.counts.rows ∷ s.counts.kept ∷ header_numbers ∷ used s.counts.rows ∷ typ ∷ k ∷ s.rows
 
-unfoldable pub fedTable : Feed → ℕ → List ℕ
-fedTable f room = cond (refuses (fedVerdict f room)) (zeros room) (headed (messageType (f .head)) (f .kind) (stateOf (outHeld (f .kind) (f .walking))))
+unfoldable pub fed_table : Feed → ℕ → List ℕ
+fed_table f room = cond (refuses (fed_verdict f room)) (zeros room) (headed (message_type f.head) f.kind (state_of (out_held f.kind f.walking)))

@@ -1,18 +1,16 @@
 // The open levels: closing those with nothing left, and what an element leaves of the innermost.
-ghost use mathlib.Core.Path.{_≡_};
-ghost use Prim.Native.Nat.{_+_, _≤_, _<_};
-ghost use Rattle·pieces·specs.specs.Coded.{withDepth, withHave, stop, closedBy, closeTop, checkTop, settleTop, headBy, beyond, into, placedBy};
-ghost use Rattle·pieces·specs.specs.Fits.{Sized};
-ghost use Rattle·pieces·specs.specs.Contracts.{Closing, ClosingOf, Placing};
-use crate::Going;
-use crate::Open;
+ghost use Rattle.std.specs.Prelude.{◌≡◌, ◌+◌, ◌≤◌, ◌<◌};
+ghost use Rattle.pieces.specs.Coded.{with_depth, with_have, stop, closed_by, close_top, check_top, settle_top, head_by, beyond, into, placed_by};
+ghost use Rattle.pieces.specs.Fits.{Sized};
+ghost use Rattle.pieces.specs.Agreements.{Closing, ClosingOf, Placing};
+
+use crate::{Going, Open};
 use rules::Head;
-use taking::Counts;
-use taking::wide;
+use taking::{Counts, wide};
 
 // The same with other counts and so many levels open, of which none is watched.
 pub(crate) fn with_depth(w: Going, depth: usize, counts: Counts) -> Going
-    ensures { λ r. ⌜ r ≡ withDepth w depth counts ⌝ }
+    ensures { result ≡ with_depth w depth counts }
 {
     let levels = w.levels;
     let some = w.some;
@@ -33,8 +31,8 @@ pub(crate) fn with_depth(w: Going, depth: usize, counts: Counts) -> Going
 
 // The counts at the end of the innermost level, or those before its group if it held too much.
 pub(crate) fn closed(kind: u32, numbers: &[u32], w: Going, f: Open) -> Counts
-    requires { ⌜ ClosingOf kind (now numbers) w f ⌝ }
-    ensures { λ r. ⌜ r ≡ closedBy kind w ⌝ }
+    requires { ClosingOf kind numbers.now w f }
+    ensures { result ≡ closed_by kind w }
 {
     if w.limited && 10 < w.apns {
         return w.back;
@@ -46,8 +44,8 @@ pub(crate) fn closed(kind: u32, numbers: &[u32], w: Going, f: Open) -> Counts
 
 // The innermost level is closed if it has nothing left.
 pub(crate) fn close_top(kind: u32, numbers: &[u32], w: Going) -> Going
-    requires { ⌜ Closing kind (now numbers) w ⌝ }
-    ensures { λ r. ⌜ r ≡ closeTop kind w ⌝ }
+    requires { Closing kind numbers.now w }
+    ensures { result ≡ close_top kind w }
 {
     if w.depth == 0 {
         return w;
@@ -62,7 +60,7 @@ pub(crate) fn close_top(kind: u32, numbers: &[u32], w: Going) -> Going
 
 // Cut at the place.
 pub(crate) fn stop(w: Going) -> Going
-    ensures { λ r. ⌜ r ≡ stop w ⌝ }
+    ensures { result ≡ stop w }
 {
     let levels = w.levels;
     let some = w.some;
@@ -85,7 +83,7 @@ pub(crate) fn stop(w: Going) -> Going
 
 // So many octets are gathered.
 pub(crate) fn with_have(w: Going, have: usize) -> Going
-    ensures { λ r. ⌜ r ≡ withHave w have ⌝ }
+    ensures { result ≡ with_have w have }
 {
     let levels = w.levels;
     let some = w.some;
@@ -108,8 +106,8 @@ pub(crate) fn with_have(w: Going, have: usize) -> Going
 
 // A level with 1 to 3 octets left is cut.
 pub(crate) fn check_top(kind: u32, w: Going) -> Going
-    requires { ⌜ Sized kind w ⌝ }
-    ensures { λ r. ⌜ r ≡ checkTop w ⌝ }
+    requires { Sized kind w }
+    ensures { result ≡ check_top w }
 {
     if w.depth == 0 {
         return with_have(w, 0);
@@ -124,8 +122,8 @@ pub(crate) fn check_top(kind: u32, w: Going) -> Going
 
 // As many levels may be closed as may be open.
 pub(crate) fn settle(kind: u32, numbers: &[u32], w: Going) -> Going
-    requires { ⌜ Closing kind (now numbers) w ⌝ }
-    ensures { λ r. ⌜ r ≡ settleTop kind w ⌝ }
+    requires { Closing kind numbers.now w }
+    ensures { result ≡ settle_top kind w }
 {
     let once = close_top(kind, numbers, w);
     let twice = close_top(kind, numbers, once);
@@ -135,7 +133,7 @@ pub(crate) fn settle(kind: u32, numbers: &[u32], w: Going) -> Going
 
 // The head of the element whose header is gathered.
 pub(crate) fn head_of(some: &[u8; 4], first: u8) -> Head
-    ensures { λ r. ⌜ r ≡ headBy (now (some .entry)) first ⌝ }
+    ensures { result ≡ head_by some.now first }
 {
     Head {
         whole: true,
@@ -148,8 +146,8 @@ pub(crate) fn head_of(some: &[u8; 4], first: u8) -> Head
 
 // After an element that is not entered: its value is passed over, `came` octets of which have come.
 pub(crate) fn beyond(w: Going, on: Open, len: usize, came: usize, counts: Counts) -> Going
-    requires { ⌜ Placing w len came ⌝ }
-    ensures { λ r. ⌜ r ≡ beyond w on len came counts ⌝ }
+    requires { Placing w len came }
+    ensures { result ≡ beyond w on len came counts }
 {
     let top = w.depth - 1;
     let mut levels = w.levels;
@@ -181,8 +179,8 @@ pub(crate) fn into(
     came: usize,
     counts: Counts,
 ) -> Going
-    requires { ⌜ (Placing w len came) × (w .depth < 3) ⌝ }
-    ensures { λ r. ⌜ r ≡ into w on inner len first came counts ⌝ }
+    requires { (Placing w len came) × (w.depth < 3) }
+    ensures { result ≡ into w on inner len first came counts }
 {
     let depth = w.depth;
     let top = depth - 1;
@@ -223,8 +221,8 @@ pub(crate) fn place(
     came: usize,
     counts: Counts,
 ) -> Going
-    requires { ⌜ Placing w len came ⌝ }
-    ensures { λ r. ⌜ r ≡ placedBy w on inner len first came counts ⌝ }
+    requires { Placing w len came }
+    ensures { result ≡ placed_by w on inner len first came counts }
 {
     if inner == 0 {
         return beyond(w, on, len, came, counts);

@@ -1,13 +1,12 @@
 // Octets as the ring hands them over: a form of the judge that is fed parts of a message and then told the end.
-ghost use mathlib.Core.Path.{_≡_};
-ghost use Prim.Native.Nat.{_-_, _≤_};
-ghost use lib.ListN.{length};
-ghost use Rattle·taking.specs.Held.{noCounts};
-ghost use Rattle·pieces·specs.specs.Feeding.{zeros};
-ghost use Rattle·pieces·specs.specs.Drafts.{blanks, standVoid, backTo};
-ghost use Rattle·pieces·specs.specs.Coded.{blankOpen, idleBy, feedAllBy, rowIf};
-ghost use Rattle·pieces·specs.specs.Answers.{startOf, toldOut, endedBy, verdictBy, Started, Parted, Ended};
-ghost use Rattle·pieces·specs.specs.Contracts.{FitsAll, From, GaveAll, Rowed};
+ghost use Rattle.std.specs.Prelude.{◌≡◌, ◌-◌, ◌≤◌, length};
+ghost use Rattle.taking.specs.Held.{no_counts};
+ghost use Rattle.pieces.specs.Feeding.{zeros};
+ghost use Rattle.pieces.specs.Drafts.{blanks, stand_void, back_to};
+ghost use Rattle.pieces.specs.Coded.{blank_open, idle_by, feed_all_by, row_if};
+ghost use Rattle.pieces.specs.Answers.{start_of, told_out, ended_by, verdict_by, Started, Parted, Ended};
+ghost use Rattle.pieces.specs.Agreements.{FitsAll, From, GaveAll, Rowed};
+
 use rules::Verdict;
 use taking::Counts;
 
@@ -18,6 +17,7 @@ pub mod sound;
 mod step;
 
 // A level that is open: its listing, the marks of its pairs, its parent's row, its place, and the octets that it has left from the next element on.
+#[derive(Drop)]
 pub struct Open {
     pub level: u8,
     pub marks: [u8; 32],
@@ -29,6 +29,7 @@ pub struct Open {
 // What is held of the elements: cut at `place`; or `depth` levels are open, the next element begins at `place`, `have` octets of its
 // header are in `some`, and `pass` octets are passed over before it. The innermost level may be `limited`: it has held `apns` so far, and if they
 // are too many the counts go `back` to what they are without its inside.
+#[derive(Drop)]
 pub struct Going {
     pub stopped: bool,
     pub depth: usize,
@@ -44,6 +45,7 @@ pub struct Going {
 }
 
 // What is held between two parts: no octet of the message but the first four, and those of a header that is not whole.
+#[derive(Drop)]
 pub struct Pieces {
     pub kind: u32,
     pub room: usize,
@@ -54,6 +56,7 @@ pub struct Pieces {
 }
 
 // What some octets leave of the elements: how many were taken, and whether an element was, whose row is then to be written.
+#[derive(Drop)]
 pub struct Walked {
     pub going: Going,
     pub taken: usize,
@@ -61,6 +64,7 @@ pub struct Walked {
 }
 
 // The same of a message.
+#[derive(Drop)]
 pub struct Stride {
     pub state: Pieces,
     pub taken: usize,
@@ -68,13 +72,14 @@ pub struct Stride {
 }
 
 // What a part or the end answers: the state to go on with, and the verdict.
+#[derive(Drop)]
 pub struct Told {
     pub state: Pieces,
     pub verdict: Verdict,
 }
 
 pub(crate) fn no_level() -> Open
-    ensures { λ r. ⌜ r ≡ blankOpen ⌝ }
+    ensures { result ≡ blank_open }
 {
     Open {
         level: 0,
@@ -86,7 +91,7 @@ pub(crate) fn no_level() -> Open
 }
 
 pub(crate) fn idle() -> Going
-    ensures { λ r. ⌜ r ≡ idleBy noCounts ⌝ }
+    ensures { result ≡ idle_by no_counts }
 {
     let none = no_level();
     Going {
@@ -106,7 +111,7 @@ pub(crate) fn idle() -> Going
 
 // All numbers of a table are zero.
 pub(crate) fn clear(table: &mut [u16])
-    ensures { λ _. ⌜ now (table .exit) ≡ zeros (length (now (table .entry))) ⌝ }
+    ensures { table.new ≡ zeros (length table.old) }
 {
     let mut n = 0;
     while n < table.len() {
@@ -117,7 +122,7 @@ pub(crate) fn clear(table: &mut [u16])
 
 // A message that begins, on this kind, with a table of so many numbers.
 pub fn anew(kind: u32, room: usize) -> Pieces
-    ensures { λ r. ⌜ r ≡ startOf kind room ⌝ }
+    ensures { result ≡ start_of kind room }
 {
     Pieces {
         kind,
@@ -131,7 +136,7 @@ pub fn anew(kind: u32, room: usize) -> Pieces
 
 // A message begins: its table is zero.
 pub fn start(kind: u32, table: &mut [u16]) -> Pieces
-    ensures { λ r. ⌜ Started kind (now (table .entry)) r (now (table .exit)) ⌝ }
+    ensures { Started kind table.old result table.new }
 {
     clear(table);
     anew(kind, table.len())
@@ -139,7 +144,7 @@ pub fn start(kind: u32, table: &mut [u16]) -> Pieces
 
 // Where a table's rows begin, or its end if it has no whole header.
 pub(crate) fn rows_from(room: usize) -> usize
-    ensures { λ r. ⌜ From room r ⌝ }
+    ensures { From room result }
 {
     if room < 6 {
         return room;
@@ -149,8 +154,8 @@ pub(crate) fn rows_from(room: usize) -> usize
 
 // Rows m to e, without the last, are zero again.
 pub(crate) fn blank(rows: &mut [u16], m: usize, e: usize)
-    requires { ⌜ e ≤ 4097 ⌝ }
-    ensures { λ _. ⌜ now (rows .exit) ≡ blanks (now (rows .entry)) m (e - m) ⌝ }
+    requires { e ≤ 4097 }
+    ensures { rows.new ≡ blanks rows.old m (e - m) }
 {
     let mut j = e;
     while m < j {
@@ -161,8 +166,8 @@ pub(crate) fn blank(rows: &mut [u16], m: usize, e: usize)
 
 // Row number m, counted from 1, is that of a void group.
 pub(crate) fn stand_void(rows: &mut [u16], m: usize)
-    requires { ⌜ m ≤ 4097 ⌝ }
-    ensures { λ _. ⌜ now (rows .exit) ≡ standVoid (now (rows .entry)) m ⌝ }
+    requires { m ≤ 4097 }
+    ensures { rows.new ≡ stand_void rows.old m }
 {
     if m == 0 {
         return;
@@ -175,8 +180,8 @@ pub(crate) fn stand_void(rows: &mut [u16], m: usize)
 
 // Where e rows were made and only m there are, the others go back, and the last that stays is void.
 pub(crate) fn take_back(rows: &mut [u16], m: usize, e: usize)
-    requires { ⌜ e ≤ 4097 ⌝ }
-    ensures { λ _. ⌜ now (rows .exit) ≡ backTo m e (now (rows .entry)) ⌝ }
+    requires { e ≤ 4097 }
+    ensures { rows.new ≡ back_to m e rows.old }
 {
     if m < e {
         blank(rows, m, e);
@@ -186,8 +191,8 @@ pub(crate) fn take_back(rows: &mut [u16], m: usize, e: usize)
 
 // A row's six numbers, if there is a row; then m rows there are.
 pub(crate) fn write_row(rows: &mut [u16], wrote: bool, n: usize, row: &[u16], m: usize)
-    requires { ⌜ Rowed n (now row) ⌝ }
-    ensures { λ _. ⌜ now (rows .exit) ≡ rowIf wrote (now (rows .entry)) n (now (row .entry)) m ⌝ }
+    requires { Rowed n row.now }
+    ensures { rows.new ≡ row_if wrote rows.old n row.now m }
 {
     if wrote {
         taking::element::put_row(rows, n, row[0], row[1], row[2], row[3], row[4], row[5]);
@@ -197,8 +202,8 @@ pub(crate) fn write_row(rows: &mut [u16], wrote: bool, n: usize, row: &[u16], m:
 
 // The octets of a part.
 pub(crate) fn feed_all(p: Pieces, part: &[u8], rows: &mut [u16]) -> Pieces
-    requires { ⌜ FitsAll p ⌝ }
-    ensures { λ r. ⌜ GaveAll r (now (rows .exit)) (feedAllBy p (now (part .entry)) (now (rows .entry))) ⌝ }
+    requires { FitsAll p }
+    ensures { GaveAll result rows.new (feed_all_by p part.now rows.old) }
 {
     let numbers = listings::numbers();
     let mut row = [0u16; 6];
@@ -216,7 +221,7 @@ pub(crate) fn feed_all(p: Pieces, part: &[u8], rows: &mut [u16]) -> Pieces
 
 // 17: nothing is taken.
 pub(crate) fn out(p: Pieces) -> Told
-    ensures { λ r. ⌜ r ≡ toldOut p ⌝ }
+    ensures { result ≡ told_out p }
 {
     Told {
         state: p,
@@ -226,7 +231,7 @@ pub(crate) fn out(p: Pieces) -> Told
 
 // The next octets of the message.
 pub fn part(p: Pieces, octets: &[u8], table: &mut [u16]) -> Told
-    ensures { λ r. ⌜ Parted p (now (octets .entry)) (now (table .entry)) r (now (table .exit)) ⌝ }
+    ensures { Parted p octets.now table.old result table.new }
 {
     if !sound::ready(p, table.len()) {
         return out(p);
@@ -240,7 +245,7 @@ pub fn part(p: Pieces, octets: &[u8], table: &mut [u16]) -> Told
 }
 
 pub fn ended(p: Pieces) -> Pieces
-    ensures { λ r. ⌜ r ≡ endedBy p ⌝ }
+    ensures { result ≡ ended_by p }
 {
     let head = p.head;
     let going = p.going;
@@ -256,8 +261,8 @@ pub fn ended(p: Pieces) -> Pieces
 
 // The verdict on what was fed: checks 1 to 12, for a table of `room` numbers.
 pub fn verdict_on(p: Pieces, room: usize) -> Verdict
-    requires { ⌜ FitsAll p ⌝ }
-    ensures { λ r. ⌜ r ≡ verdictBy p room ⌝ }
+    requires { FitsAll p }
+    ensures { result ≡ verdict_by p room }
 {
     let head = p.head;
     let v = heading::opening(p.kind, &head, p.count);
@@ -273,7 +278,7 @@ pub fn verdict_on(p: Pieces, room: usize) -> Verdict
 
 // The end of the message.
 pub fn end(p: Pieces, table: &mut [u16]) -> Told
-    ensures { λ r. ⌜ Ended p (now (table .entry)) r (now (table .exit)) ⌝ }
+    ensures { Ended p table.old result table.new }
 {
     if !sound::ready(p, table.len()) {
         return out(p);

@@ -1,19 +1,16 @@
 // The header of the message, and where its elements begin.
-ghost use mathlib.Core.Path.{_≡_};
-ghost use Prim.Native.Nat.{_≤_};
-ghost use Rattle·rules.specs.Listings.{book};
-ghost use Rattle·listings.specs.Data.{numbersOf};
-ghost use Rattle·pieces·specs.specs.Coded.{entryBy, bodyBy, headAfter, inHeaderBy};
-ghost use Rattle·pieces·specs.specs.Contracts.{Enters};
-use crate::Going;
-use crate::Open;
-use crate::Pieces;
-use crate::level;
+ghost use Rattle.std.specs.Prelude.{◌≡◌, ◌≤◌};
+ghost use Rattle.rules.specs.Listings.{book};
+ghost use Rattle.listings.specs.Data.{numbers_of};
+ghost use Rattle.pieces.specs.Coded.{entry_by, body_by, head_after, in_header_by};
+ghost use Rattle.pieces.specs.Agreements.{Enters};
+
+use crate::{Going, Open, Pieces, level};
 
 // A body that begins, before its levels are looked at.
 pub(crate) fn entry(head: &[u8; 4], n: usize) -> Going
-    requires { ⌜ Enters (now head) n ⌝ }
-    ensures { λ r. ⌜ r ≡ entryBy (now (head .entry)) ⌝ }
+    requires { Enters head.now n }
+    ensures { result ≡ entry_by head.now }
 {
     let at = heading::start(head);
     let level = heading::body(head);
@@ -42,8 +39,8 @@ pub(crate) fn entry(head: &[u8; 4], n: usize) -> Going
 
 // The elements begin, if the message will pass checks 1 to 8 with the length that its header says.
 pub(crate) fn body(kind: u32, numbers: &[u32], head: &[u8; 4]) -> Going
-    requires { ⌜ now numbers ≡ numbersOf book ⌝ }
-    ensures { λ r. ⌜ r ≡ bodyBy kind (now (head .entry)) ⌝ }
+    requires { numbers.now ≡ numbers_of book }
+    ensures { result ≡ body_by kind head.now }
 {
     let n = heading::length_field(head) + 4;
     let v = heading::opening(kind, head, n);
@@ -55,7 +52,7 @@ pub(crate) fn body(kind: u32, numbers: &[u32], head: &[u8; 4]) -> Going
 
 // One more octet of the header.
 pub(crate) fn head_on(head: [u8; 4], n: usize, x: u8) -> [u8; 4]
-    ensures { λ r. ⌜ r ≡ headAfter head n x ⌝ }
+    ensures { result ≡ head_after head n x }
 {
     let mut next = head;
     if n < 4 {
@@ -65,8 +62,8 @@ pub(crate) fn head_on(head: [u8; 4], n: usize, x: u8) -> [u8; 4]
 }
 
 pub(crate) fn in_header(numbers: &[u32], p: Pieces, x: u8) -> Pieces
-    requires { ⌜ (now numbers ≡ numbersOf book) × (p .count ≤ 4097) ⌝ }
-    ensures { λ r. ⌜ r ≡ inHeaderBy p x ⌝ }
+    requires { (numbers.now ≡ numbers_of book) × (p.count ≤ 4097) }
+    ensures { result ≡ in_header_by p x }
 {
     let count = p.count + 1;
     let old = p.head;

@@ -1,19 +1,13 @@
 // As many octets of a part at once as can be: what is only counted or passed over goes by a jump, and a header that stands in the part is gathered whole.
-ghost use mathlib.Core.Path.{_≡_};
-ghost use Prim.Native.Nat.{_≤_};
-ghost use lib.ListN.{length};
-ghost use Rattle·pieces·specs.specs.Coded.{gatherFour, passBy, countBy, withGoing};
-ghost use Rattle·pieces·specs.specs.Contracts.{Four, Idles, Least, Passing, Stepping, Strode, Striding, StrodeAll, FitsAll};
-use crate::Going;
-use crate::Pieces;
-use crate::Stride;
-use crate::Walked;
-use crate::message;
-use crate::step;
+ghost use Rattle.std.specs.Prelude.{◌≡◌, ◌≤◌, length};
+ghost use Rattle.pieces.specs.Coded.{gather_four, pass_by, count_by, with_going};
+ghost use Rattle.pieces.specs.Agreements.{Four, Idles, Least, Passing, Stepping, Strode, Striding, StrodeAll, FitsAll};
+
+use crate::{Going, Pieces, Stride, Walked, message, step};
 
 // The rows so far.
 pub fn rows(p: Pieces) -> usize
-    ensures { λ r. ⌜ r ≡ p .going .counts .rows ⌝ }
+    ensures { result ≡ p.going.counts.rows }
 {
     let g = p.going;
     let c = g.counts;
@@ -21,7 +15,7 @@ pub fn rows(p: Pieces) -> usize
 }
 
 pub(crate) fn least(a: usize, b: usize) -> usize
-    ensures { λ r. ⌜ Least a b r ⌝ }
+    ensures { Least a b result }
 {
     if a < b {
         return a;
@@ -31,8 +25,8 @@ pub(crate) fn least(a: usize, b: usize) -> usize
 
 // So many octets of a value are passed over.
 pub(crate) fn pass(w: Going, n: usize) -> Going
-    requires { ⌜ n ≤ w .pass ⌝ }
-    ensures { λ r. ⌜ r ≡ passBy w n ⌝ }
+    requires { n ≤ w.pass }
+    ensures { result ≡ pass_by w n }
 {
     let levels = w.levels;
     let some = w.some;
@@ -55,8 +49,8 @@ pub(crate) fn pass(w: Going, n: usize) -> Going
 
 // A whole header.
 pub(crate) fn gather_four(w: Going, part: &[u8]) -> Going
-    requires { ⌜ 4 ≤ length (now part) ⌝ }
-    ensures { λ r. ⌜ r ≡ gatherFour w (Four (now (part .entry))) ⌝ }
+    requires { 4 ≤ length part.now }
+    ensures { result ≡ gather_four w (Four part.now) }
 {
     let levels = w.levels;
     let counts = w.counts;
@@ -78,8 +72,8 @@ pub(crate) fn gather_four(w: Going, part: &[u8]) -> Going
 
 // The next octets of the elements, at least one.
 pub(crate) fn walk(kind: u32, numbers: &[u32], w: Going, part: &[u8], row: &mut [u16]) -> Walked
-    requires { ⌜ Passing kind (now numbers) w (now part) (now row) ⌝ }
-    ensures { λ r. ⌜ Strode kind w (now (part .entry)) r (now (row .exit)) ⌝ }
+    requires { Passing kind numbers.now w part.now row.old }
+    ensures { Strode kind w part.now result row.new }
 {
     if 0 < w.pass {
         let n = least(w.pass, part.len());
@@ -100,7 +94,7 @@ pub(crate) fn walk(kind: u32, numbers: &[u32], w: Going, part: &[u8], row: &mut 
 
 // How many of `n` octets are only counted: the header's after the fourth, but for its last; and all where nothing is walked.
 pub(crate) fn idles(p: Pieces, n: usize) -> usize
-    ensures { λ r. ⌜ Idles p n r ⌝ }
+    ensures { Idles p n result }
 {
     let head = p.head;
     let start = heading::start(&head);
@@ -125,8 +119,8 @@ pub(crate) fn idles(p: Pieces, n: usize) -> usize
 
 // So many octets more; past 4,096 the count stays at the first number that is too large.
 pub(crate) fn count_on(count: usize, n: usize) -> usize
-    requires { ⌜ count ≤ 4097 ⌝ }
-    ensures { λ r. ⌜ r ≡ countBy count n ⌝ }
+    requires { count ≤ 4097 }
+    ensures { result ≡ count_by count n }
 {
     if 4097 - count <= n {
         return 4097;
@@ -136,8 +130,8 @@ pub(crate) fn count_on(count: usize, n: usize) -> usize
 
 // The state with so many octets counted more, and what is held of the elements.
 pub(crate) fn counted(p: Pieces, n: usize, going: Going) -> Pieces
-    requires { ⌜ p .count ≤ 4097 ⌝ }
-    ensures { λ r. ⌜ r ≡ withGoing p (countBy (p .count) n) (p .head) going ⌝ }
+    requires { p.count ≤ 4097 }
+    ensures { result ≡ with_going p (count_by p.count n) p.head going }
 {
     let head = p.head;
     Pieces {
@@ -152,8 +146,8 @@ pub(crate) fn counted(p: Pieces, n: usize, going: Going) -> Pieces
 
 // The next octets of a message, at least one.
 pub fn next(numbers: &[u32], p: Pieces, part: &[u8], row: &mut [u16]) -> Stride
-    requires { ⌜ Striding (now numbers) p (now part) (now row) ⌝ }
-    ensures { λ r. ⌜ StrodeAll p (now (part .entry)) r (now (row .exit)) ⌝ }
+    requires { Striding numbers.now p part.now row.old }
+    ensures { StrodeAll p part.now result row.new }
 {
     let w = p.going;
     let n = idles(p, part.len());

@@ -1,22 +1,16 @@
 // What a caller hands in may be anything at all: a state is taken if its numbers are such that the sums and the marks hold. Those that a start leads to are.
-ghost use mathlib.Core.Path.{_≡_};
-ghost use Prim.Native.Nat.{_≤_};
-ghost use mathlib.Core.Bool.{true, cond};
-ghost use lib.Dec.{eqb};
-ghost use lib.ListN.{length};
-ghost use Rattle·rules.specs.Types.{among};
-ghost use Rattle·rules.specs.Listings.{book};
-ghost use Rattle·pieces·specs.specs.Answers.{slotFits, slotsFit, backFits, waits, walkFits};
-ghost use Rattle·pieces·specs.specs.Contracts.{Readied};
-use crate::Going;
-use crate::Open;
-use crate::Pieces;
-use taking::Counts;
-use taking::wide;
+ghost use Rattle.std.specs.Prelude.{◌≡◌, ◌≤◌, true, cond, eqb, length};
+ghost use Rattle.rules.specs.Types.{among};
+ghost use Rattle.rules.specs.Listings.{book};
+ghost use Rattle.pieces.specs.Answers.{slot_fits, slots_fit, back_fits, waits, walk_fits};
+ghost use Rattle.pieces.specs.Agreements.{Readied};
+
+use crate::{Going, Open, Pieces};
+use taking::{Counts, wide};
 
 // A level that a start over one table can have opened.
 pub(crate) fn fits_level(f: Open) -> bool
-    ensures { λ r. ⌜ r ≡ slotFits f ⌝ }
+    ensures { result ≡ slot_fits f }
 {
     if 19 <= f.level {
         return false;
@@ -32,8 +26,8 @@ pub(crate) fn fits_level(f: Open) -> bool
 
 // Each level fits, and from a place on they have no more octets left than a message may have.
 pub(crate) fn fits_levels(levels: [Open; 3], place: usize) -> bool
-    requires { ⌜ place ≤ 4096 ⌝ }
-    ensures { λ r. ⌜ r ≡ slotsFit place levels ⌝ }
+    requires { place ≤ 4096 }
+    ensures { result ≡ slots_fit place levels }
 {
     let mut at = place;
     let mut n = 0;
@@ -53,8 +47,8 @@ pub(crate) fn fits_levels(levels: [Open; 3], place: usize) -> bool
 
 // A header that is gathered whole is of an element that lies in its level and is not empty.
 pub(crate) fn waiting(w: Going) -> bool
-    requires { ⌜ w .depth ≤ 3 ⌝ }
-    ensures { λ r. ⌜ r ≡ waits w ⌝ }
+    requires { w.depth ≤ 3 }
+    ensures { result ≡ waits w }
 {
     if w.stopped {
         return true;
@@ -77,7 +71,7 @@ pub(crate) fn waiting(w: Going) -> bool
 
 // No level is open on a kind that there is not.
 pub(crate) fn fits_kind(kind: u32, depth: usize) -> bool
-    ensures { λ r. ⌜ r ≡ cond (eqb depth 0) true (among kind (book .kinds)) ⌝ }
+    ensures { result ≡ cond (eqb depth 0) true (among kind book.kinds) }
 {
     if depth == 0 {
         return true;
@@ -87,7 +81,7 @@ pub(crate) fn fits_kind(kind: u32, depth: usize) -> bool
 
 // The counts to go back to are some of those there are, and the APNs have a row each.
 pub(crate) fn fits_back(back: Counts, rows: usize, apns: usize) -> bool
-    ensures { λ r. ⌜ r ≡ backFits back rows apns ⌝ }
+    ensures { result ≡ back_fits back rows apns }
 {
     if rows < back.rows {
         return false;
@@ -100,7 +94,7 @@ pub(crate) fn fits_back(back: Counts, rows: usize, apns: usize) -> bool
 
 // Numbers that a start over one table can have come to: what the sums and the marks need.
 pub(crate) fn fits(kind: u32, w: Going) -> bool
-    ensures { λ r. ⌜ r ≡ walkFits kind w ⌝ }
+    ensures { result ≡ walk_fits kind w }
 {
     if 4096 < w.place {
         return false;
@@ -133,16 +127,16 @@ pub(crate) fn fits(kind: u32, w: Going) -> bool
 
 // Arrays are as long as their types say.
 pub(crate) fn three(levels: [Open; 3])
-    ensures { λ _. ⌜ length levels ≡ 3 ⌝ }
+    ensures { length levels ≡ 3 }
 {}
 
 pub(crate) fn four(some: [u8; 4])
-    ensures { λ _. ⌜ length some ≡ 4 ⌝ }
+    ensures { length some ≡ 4 }
 {}
 
 // May a part or an end be taken with a table of so many numbers?
 pub fn ready(p: Pieces, room: usize) -> bool
-    ensures { λ r. ⌜ Readied p room r ⌝ }
+    ensures { Readied p room result }
 {
     if p.ended {
         return false;

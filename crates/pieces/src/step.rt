@@ -1,29 +1,23 @@
 // One element: its header is gathered, and once it is whole and the first value octet is there the element is taken. Its row is left in `row`, six
 // numbers, for whoever lends the table.
-ghost use mathlib.Core.Path.{_≡_};
-ghost use Prim.Native.Nat.{_≤_};
-ghost use mathlib.Core.Bool.{true};
-ghost use mathlib.Core.List.{[]};
-ghost use Rattle·taking.specs.Held.{Few};
-ghost use Rattle·pieces·specs.specs.Coded.{withWatch, watchedBy, aloneBy, joinedBy, takeBy, gatherBy, furtherBy};
-ghost use Rattle·pieces·specs.specs.Contracts.{Watching, Taking, Heading, Adds, Wrote, Strode, HeadStrode, Stepping};
-use crate::Going;
-use crate::Open;
-use crate::Walked;
-use crate::level;
-use taking::Counts;
-use taking::wide;
+ghost use Rattle.std.specs.Prelude.{◌≡◌, ◌≤◌, true, []};
+ghost use Rattle.taking.specs.Held.{Few};
+ghost use Rattle.pieces.specs.Coded.{with_watch, watched_by, alone_by, joined_by, take_by, gather_by, further_by};
+ghost use Rattle.pieces.specs.Agreements.{Watching, Taking, Heading, Adds, Wrote, Strode, HeadStrode, Stepping};
+
+use crate::{Going, Open, Walked, level};
+use taking::{Counts, wide};
 
 // No octet: those of a value are still to come.
 pub(crate) fn nothing<'a>(some: &'a [u8]) -> &'a [u8]
-    ensures { λ r. ⌜ now r ≡ [] ⌝ }
+    ensures { result.now ≡ [] }
 {
     &some[0..0]
 }
 
 // Counts that an element is counted from by itself: its row is then the first.
 pub(crate) fn alone(c: Counts) -> Counts
-    ensures { λ r. ⌜ r ≡ aloneBy c ⌝ }
+    ensures { result ≡ alone_by c }
 {
     Counts {
         rows: 0,
@@ -35,8 +29,8 @@ pub(crate) fn alone(c: Counts) -> Counts
 
 // The counts with those of one element.
 pub(crate) fn joined(c: Counts, e: Counts) -> Counts
-    requires { ⌜ Adds c e ⌝ }
-    ensures { λ r. ⌜ r ≡ joinedBy c e ⌝ }
+    requires { Adds c e }
+    ensures { result ≡ joined_by c e }
 {
     Counts {
         rows: c.rows + e.rows,
@@ -47,7 +41,7 @@ pub(crate) fn joined(c: Counts, e: Counts) -> Counts
 }
 
 pub(crate) fn with_watch(w: Going, limited: bool, apns: usize, back: Counts) -> Going
-    ensures { λ r. ⌜ r ≡ withWatch w limited apns back ⌝ }
+    ensures { result ≡ with_watch w limited apns back }
 {
     let levels = w.levels;
     let some = w.some;
@@ -69,8 +63,8 @@ pub(crate) fn with_watch(w: Going, limited: bool, apns: usize, back: Counts) -> 
 
 // What is watched after an element: one that is entered, by its limits; another may be an APN.
 pub(crate) fn watch(w: Going, inner: u8, limited: bool, n: usize, counts: Counts) -> Going
-    requires { ⌜ Watching w n ⌝ }
-    ensures { λ r. ⌜ r ≡ watchedBy w inner limited n counts ⌝ }
+    requires { Watching w n }
+    ensures { result ≡ watched_by w inner limited n counts }
 {
     if inner == 0 {
         return with_watch(w, w.limited, w.apns + n, w.back);
@@ -94,8 +88,8 @@ pub(crate) fn take(
     came: usize,
     row: &mut [u16],
 ) -> Going
-    requires { ⌜ Taking kind (now numbers) w came (now row) ⌝ }
-    ensures { λ r. ⌜ Wrote r true (now (row .exit)) (w .counts .rows) (takeBy kind w first came) ⌝ }
+    requires { Taking kind numbers.now w came row.old }
+    ensures { Wrote result true row.new w.counts.rows (take_by kind w first came) }
 {
     let some = w.some;
     let h = level::head_of(&some, first);
@@ -131,8 +125,8 @@ pub(crate) fn take(
 
 // An octet of a header is gathered.
 pub(crate) fn gather(w: Going, x: u8) -> Going
-    requires { ⌜ w .have ≤ 3 ⌝ }
-    ensures { λ r. ⌜ r ≡ gatherBy w x ⌝ }
+    requires { w.have ≤ 3 }
+    ensures { result ≡ gather_by w x }
 {
     let at = w.have;
     let mut some = w.some;
@@ -157,8 +151,8 @@ pub(crate) fn gather(w: Going, x: u8) -> Going
 
 // A header is whole: an element that is too long is cut, an empty one is taken, and so is another if the first value octet stands in `rest`; if not, it waits.
 pub(crate) fn headed(kind: u32, numbers: &[u32], w: Going, rest: &[u8], row: &mut [u16]) -> Walked
-    requires { ⌜ Heading kind (now numbers) w (now row) ⌝ }
-    ensures { λ r. ⌜ HeadStrode kind w (now (rest .entry)) r (now (row .exit)) ⌝ }
+    requires { Heading kind numbers.now w row.old }
+    ensures { HeadStrode kind w rest.now result row.new }
 {
     let some = w.some;
     let len = wide(some[1]) * 256 + wide(some[2]);
@@ -194,8 +188,8 @@ pub(crate) fn headed(kind: u32, numbers: &[u32], w: Going, rest: &[u8], row: &mu
 
 // So many more were taken before.
 pub(crate) fn further(s: Walked, n: usize) -> Walked
-    requires { ⌜ (s .taken ≤ 1) × (n ≤ 4) ⌝ }
-    ensures { λ r. ⌜ r ≡ furtherBy s n ⌝ }
+    requires { (s.taken ≤ 1) × (n ≤ 4) }
+    ensures { result ≡ further_by s n }
 {
     let going = s.going;
     Walked {
@@ -207,8 +201,8 @@ pub(crate) fn further(s: Walked, n: usize) -> Walked
 
 // One octet, or two where it makes a header whole.
 pub(crate) fn one(kind: u32, numbers: &[u32], w: Going, part: &[u8], row: &mut [u16]) -> Walked
-    requires { ⌜ Stepping kind (now numbers) w (now part) (now row) ⌝ }
-    ensures { λ r. ⌜ Strode kind w (now (part .entry)) r (now (row .exit)) ⌝ }
+    requires { Stepping kind numbers.now w part.now row.old }
+    ensures { Strode kind w part.now result row.new }
 {
     if w.have < 3 {
         return Walked {

@@ -1,11 +1,9 @@
 -- The messages of a kind. Assumes nothing.
-use mathlib.Core.Bool.{cond}
-use mathlib.Core.List.{List, [], _∷_}
-use Prim.Native.Nat.{ℕ}
-use Rattle·rules.specs.Types.{among}
-use Rattle·rules.specs.Listings.{Message}
+use Rattle.std.specs.Prelude.{cond, List, [], ◌∷◌, ℕ}
+use Rattle.rules.specs.Types.{among}
+use Rattle.rules.specs.Listings.{Message}
 
 -- the types of those that are sent on kind k
-unfoldable pub typesOn : ℕ → List Message → List ℕ
-typesOn k [] = []
-typesOn k (x ∷ xs) = cond (among k (x .kinds)) (x .typ ∷ typesOn k xs) (typesOn k xs)
+unfoldable pub types_on : ℕ → List Message → List ℕ
+types_on k [] = []
+types_on k (x ∷ xs) = cond (among k x.kinds) (x.typ ∷ types_on k xs) (types_on k xs)

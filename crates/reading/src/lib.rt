@@ -1,19 +1,18 @@
 // The reading of a message: checks 1 to 9, and the rows of every element in octet order.
-ghost use mathlib.Core.Path.{_≡_};
-ghost use mathlib.Core.Bool.{false};
-ghost use Prim.Native.Nat.{_≤_};
-ghost use Rattle·rules.specs.Listings.{book};
-ghost use Rattle·rules.specs.Answers.{Read, refusedReading};
-ghost use Rattle·rules.specs.Verdicts.{refusedAt, refuses, first, headerChecks};
-ghost use Rattle·reading·specs.specs.Gaps.{unpacked};
-ghost use Rattle·reading·specs.specs.Scan.{wholeReading};
-use rules::Reading;
-use rules::Verdict;
+ghost use Rattle.std.specs.Prelude.{◌≡◌, false, ◌≤◌};
+ghost use Rattle.rules.specs.Listings.{book};
+ghost use Rattle.rules.specs.Answers.{Read, refused_reading};
+ghost use Rattle.rules.specs.Verdicts.{refused_at, refuses, first, header_checks};
+ghost use Rattle.reading.specs.Gaps.{unpacked};
+ghost use Rattle.reading.specs.Scan.{whole_reading};
+
+use rules::{Reading, Verdict};
 use taking::Counts;
 
 mod run;
 
 // A run of elements is cut at a place, or whole.
+#[derive(Drop)]
 pub(crate) enum Walk {
     Cut(usize),
     Whole(Counts),
@@ -21,7 +20,7 @@ pub(crate) enum Walk {
 
 // The refusal that names a place with a pair, or five zeros for none.
 pub(crate) fn unpack(code: u16, cause: u16, f: usize) -> Verdict
-    ensures { λ r. ⌜ r ≡ unpacked code cause f ⌝ }
+    ensures { result ≡ unpacked code cause f }
 {
     if f == 0 {
         return answers::accept();
@@ -37,7 +36,7 @@ pub(crate) fn unpack(code: u16, cause: u16, f: usize) -> Verdict
 }
 
 pub fn refused(v: Verdict) -> Reading
-    ensures { λ r. ⌜ r ≡ refusedReading v ⌝ }
+    ensures { result ≡ refused_reading v }
 {
     Reading {
         refusal: v,
@@ -50,14 +49,14 @@ pub fn refused(v: Verdict) -> Reading
 
 // A run that is cut at a place: 9.
 pub fn cut_at(place: usize) -> Verdict
-    requires { ⌜ place ≤ 4096 ⌝ }
-    ensures { λ r. ⌜ r ≡ refusedAt 9 67 place 0 0 ⌝ }
+    requires { place ≤ 4096 }
+    ensures { result ≡ refused_at 9 67 place 0 0 }
 {
     answers::refuse_at(9, 67, place as u16, 0, 0)
 }
 
 pub fn whole(counts: Counts) -> Reading
-    ensures { λ r. ⌜ r ≡ wholeReading counts ⌝ }
+    ensures { result ≡ whole_reading counts }
 {
     Reading {
         refusal: answers::accept(),
@@ -70,8 +69,8 @@ pub fn whole(counts: Counts) -> Reading
 
 // The elements of a message that passes checks 1 to 8, with the tables laid down once.
 pub(crate) fn read_body(kind: u32, message: &[u8], rows: &mut [u16]) -> Reading
-    requires { ⌜ refuses (first (headerChecks book kind (now message))) ≡ false ⌝ }
-    ensures { λ r. ⌜ Read kind (now (message .entry)) (now (rows .entry)) r (now (rows .exit)) ⌝ }
+    requires { refuses (first (header_checks book kind message.now)) ≡ false }
+    ensures { Read kind message.now rows.old result rows.new }
 {
     let levels = listings::numbers();
     let at = heading::start(message);
@@ -94,7 +93,7 @@ pub(crate) fn read_body(kind: u32, message: &[u8], rows: &mut [u16]) -> Reading
 
 // Checks 1 to 9 of a message on a kind, and the six numbers of each of its elements, as many as there is room for.
 pub fn read(kind: u32, message: &[u8], rows: &mut [u16]) -> Reading
-    ensures { λ r. ⌜ Read kind (now (message .entry)) (now (rows .entry)) r (now (rows .exit)) ⌝ }
+    ensures { Read kind message.now rows.old result rows.new }
 {
     let v = heading::opening(kind, message, message.len());
     if v.code != 0 {

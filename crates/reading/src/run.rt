@@ -1,16 +1,14 @@
 // A run of elements and the inside of a group call each other. Siblings go by a loop, so the calls are as deep as the listings.
-ghost use Prim.Native.Nat.{_+_};
-ghost use lib.ListN.{length};
-ghost use Rattle·rules.specs.Standing.{fresh};
-ghost use Rattle·taking.specs.Held.{held};
-ghost use Rattle·reading·specs.specs.Scan.{scan, scanIn, Fine, Enters, Ran};
+ghost use Rattle.std.specs.Prelude.{◌+◌, length};
+ghost use Rattle.rules.specs.Standing.{fresh};
+ghost use Rattle.taking.specs.Held.{held};
+ghost use Rattle.reading.specs.Scan.{scan, scan_in, Fine, Enters, Ran};
+
 use crate::Walk;
-use taking::Counts;
-use taking::element;
-use taking::level;
-use taking::line;
+use taking::{Counts, element, level, line};
 
 // The elements of a part that begins at `base`, at the level `level` whose place is `home`.
+#[cycle(enter_group_read_run)]
 pub(crate) fn read_run(
     kind: u32,
     level: u8,
@@ -22,9 +20,9 @@ pub(crate) fn read_run(
     rows: &mut [u16],
     before: Counts,
 ) -> Walk
-    requires { ⌜ Fine kind level (now levels) home parent base (length (now part)) before ⌝ }
-    ensures { λ r. ⌜ Ran r (now (rows .exit)) (base + length (now (part .entry)))
-        (scan kind level fresh parent home base (now (part .entry)) (held before (now (rows .entry)))) ⌝ }
+    requires { Fine kind level levels.now home parent base (length part.now) before }
+    ensures { Ran result rows.new (base + length part.now)
+        (scan kind level fresh parent home base part.now (held before rows.old)) }
 {
     let lines = line::of_level(levels, level);
     let mut seen = [0u8; 32];
@@ -40,16 +38,7 @@ pub(crate) fn read_run(
         let next = value + h.len;
         let own = &part[value..next];
         let e = element::take_one(
-            kind,
-            level,
-            lines,
-            h,
-            own,
-            place,
-            parent,
-            &mut seen,
-            rows,
-            counts,
+            kind, level, lines, h, own, place, parent, &mut seen, rows, counts,
         );
         let inner = e.inner;
         if inner == 0 {
@@ -71,6 +60,7 @@ pub(crate) fn read_run(
 }
 
 // The inside of the kept group whose first octet is at `home`: a run like any other.
+#[cycle(enter_group_read_run)]
 pub(crate) fn enter_group(
     kind: u32,
     inner: u8,
@@ -80,9 +70,9 @@ pub(crate) fn enter_group(
     rows: &mut [u16],
     counts: Counts,
 ) -> Walk
-    requires { ⌜ Enters kind inner (now levels) home (length (now group)) counts ⌝ }
-    ensures { λ r. ⌜ Ran r (now (rows .exit)) (home + 4 + length (now (group .entry)))
-        (scanIn kind inner home (now (group .entry)) (held counts (now (rows .entry)))) ⌝ }
+    requires { Enters kind inner levels.now home (length group.now) counts }
+    ensures { Ran result rows.new (home + 4 + length group.now)
+        (scan_in kind inner home group.now (held counts rows.old)) }
 {
     read_run(
         kind,

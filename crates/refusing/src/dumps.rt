@@ -1,13 +1,13 @@
 // Octets in lines of 16, each with the place of its first.
-ghost use mathlib.Core.Path.{_≡_};
-ghost use mathlib.Core.List.{_++_};
-ghost use Rattle·wording.specs.Puts.{Puts};
-ghost use Rattle·wording.specs.Pieces.{hex};
-ghost use Rattle·refusing·specs.specs.Dumps.{lineBreak, lead, dumpLines, dump};
+ghost use Rattle.std.specs.Prelude.{◌≡◌, ◌++◌};
+ghost use Rattle.wording.specs.Puts.{Puts};
+ghost use Rattle.wording.specs.Pieces.{hex};
+ghost use Rattle.refusing.specs.Dumps.{line_break, lead, dump_lines, dump};
+
 use phrases::runs::narrow;
 
 fn new_line(i: usize, at: usize, out: &mut [u8]) -> usize
-    ensures { λ r. ⌜ Puts (lineBreak i) at (now (out .entry)) r (now (out .exit)) ⌝ }
+    ensures { Puts (line_break i) at out.old result out.new }
 {
     if i == 0 {
         return at;
@@ -17,7 +17,7 @@ fn new_line(i: usize, at: usize, out: &mut [u8]) -> usize
 
 // What stands before octet `i`: each 16th begins a line with its place.
 fn lead(i: usize, at: usize, out: &mut [u8]) -> usize
-    ensures { λ r. ⌜ Puts (lead i) at (now (out .entry)) r (now (out .exit)) ⌝ }
+    ensures { Puts (lead i) at out.old result out.new }
 {
     if i % 16 != 0 {
         return wording::put(32, at, out);
@@ -28,14 +28,14 @@ fn lead(i: usize, at: usize, out: &mut [u8]) -> usize
 }
 
 fn dumped(octet: u8, i: usize, at: usize, out: &mut [u8]) -> usize
-    ensures { λ r. ⌜ Puts (lead i ++ hex octet) at (now (out .entry)) r (now (out .exit)) ⌝ }
+    ensures { Puts (lead i ++ hex octet) at out.old result out.new }
 {
     let after = lead(i, at, out);
     wording::hex(octet, after, out)
 }
 
 fn dump_lines(part: &[u8], at: usize, out: &mut [u8]) -> usize
-    ensures { λ r. ⌜ Puts (dumpLines (now (part .entry))) at (now (out .entry)) r (now (out .exit)) ⌝ }
+    ensures { Puts (dump_lines part.now) at out.old result out.new }
 {
     let mut to = at;
     let mut i = 0;
@@ -48,7 +48,7 @@ fn dump_lines(part: &[u8], at: usize, out: &mut [u8]) -> usize
 
 // No octets have no line.
 pub(crate) fn dump(part: &[u8], at: usize, out: &mut [u8]) -> usize
-    ensures { λ r. ⌜ Puts (dump (now (part .entry))) at (now (out .entry)) r (now (out .exit)) ⌝ }
+    ensures { Puts (dump part.now) at out.old result out.new }
 {
     if part.len() == 0 {
         return at;

@@ -1,34 +1,31 @@
 // Which of its two reasons 9 had, by the rows that the reading leaves of what stands before its place.
-ghost use mathlib.Core.Path.{_≡_};
-ghost use mathlib.Core.Bool.{cond, _&&_};
-ghost use Prim.Native.Nat.{_+_, _*_, _≤_, _<_};
-ghost use lib.Dec.{ltb, leb};
-ghost use lib.ListN.{length};
-ghost use Rattle·lookup.specs.Lent.{Number};
-ghost use Rattle·masking.specs.Clearing.{number};
-ghost use Rattle·refusing·specs.specs.Levels.{innerEnd, endAfter, reasonOf};
+ghost use Rattle.std.specs.Prelude.{◌≡◌, cond, ◌&&◌, ◌+◌, ◌*◌, ◌≤◌, ◌<◌, ltb, leb, length};
+ghost use Rattle.lookup.specs.Lent.{Number};
+ghost use Rattle.masking.specs.Clearing.{number};
+ghost use Rattle.refusing.specs.Levels.{inner_end, end_after, reason_of};
+
 use columns::values::entered;
 use phrases::runs::number_at;
 use rules::Verdict;
 
 fn wide(x: u16) -> usize
-    ensures { λ r. ⌜ Number x r ⌝ }
+    ensures { Number x result }
 {
     x as usize
 }
 
 // Number `j` of a row.
 fn number(rows: &[u16], row: usize, j: usize) -> u16
-    requires { ⌜ (row < 1022) × (j < 6) ⌝ }
-    ensures { λ r. ⌜ r ≡ number (now (rows .entry)) row j ⌝ }
+    requires { (row < 1022) × (j < 6) }
+    ensures { result ≡ number rows.now row j }
 {
     number_at(rows, 6 * row + j)
 }
 
 // The end of a value that has the place, or else what was known.
 fn nearer(start: usize, len: usize, place: usize, end: usize) -> usize
-    requires { ⌜ (start < 65536) × (len < 65536) ⌝ }
-    ensures { λ r. ⌜ r ≡ cond (leb start place && ltb place (start + len)) (start + len) end ⌝ }
+    requires { (start < 65536) × (len < 65536) }
+    ensures { result ≡ cond (leb start place && ltb place (start + len)) (start + len) end }
 {
     if place < start {
         return end;
@@ -42,8 +39,8 @@ fn nearer(start: usize, len: usize, place: usize, end: usize) -> usize
 
 // The end of the level at `place` after a row: that of its inside, if it has one around the place.
 fn inner_end(rows: &[u16], row: usize, place: usize, end: usize) -> usize
-    requires { ⌜ row < 1022 ⌝ }
-    ensures { λ r. ⌜ r ≡ innerEnd (now (rows .entry)) row place end ⌝ }
+    requires { row < 1022 }
+    ensures { result ≡ inner_end rows.now row place end }
 {
     if entered(number(rows, row, 1), number(rows, row, 5)) {
         let start = wide(number(rows, row, 3));
@@ -55,7 +52,7 @@ fn inner_end(rows: &[u16], row: usize, place: usize, end: usize) -> usize
 
 // Numbers past the rows are 0, which is no group.
 fn level_end(rows: &[u16], place: usize, size: usize) -> usize
-    ensures { λ r. ⌜ r ≡ endAfter (now (rows .entry)) place size 1022 ⌝ }
+    ensures { result ≡ end_after rows.now place size 1022 }
 {
     let mut end = size;
     let mut row = 0;
@@ -68,8 +65,8 @@ fn level_end(rows: &[u16], place: usize, size: usize) -> usize
 
 // Has the level fewer than four octets left?
 fn short_of_four(end: usize, place: usize) -> u16
-    requires { ⌜ place < 65536 ⌝ }
-    ensures { λ r. ⌜ r ≡ cond (ltb end (place + 4)) 1 0 ⌝ }
+    requires { place < 65536 }
+    ensures { result ≡ cond (ltb end (place + 4)) 1 0 }
 {
     if end < place + 4 {
         return 1;
@@ -79,7 +76,7 @@ fn short_of_four(end: usize, place: usize) -> u16
 
 // The message is read once more, for its rows.
 pub(crate) fn reason(kind: u32, message: &[u8], v: Verdict) -> u16
-    ensures { λ r. ⌜ r ≡ reasonOf kind (now (message .entry)) v ⌝ }
+    ensures { result ≡ reason_of kind message.now v }
 {
     if v.code != 9 {
         return 0;

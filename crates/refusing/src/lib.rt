@@ -1,23 +1,19 @@
 // The page on a message that 1 to 9 refuse: a title, and what is wrong with its figures; and its octets for a viewer with the right.
-ghost use mathlib.Core.Path.{_≡_};
-ghost use mathlib.Core.Bool.{cond};
-ghost use Prim.Native.Nat.{_+_, _*_, _/_, _%_};
-ghost use lib.Dec.{eqb, ltb};
-ghost use Rattle·wording.specs.Puts.{Puts};
-ghost use Rattle·refusing·specs.specs.Refused.{claim, refusedRun, titleNumber, refusedLines, refusedPage};
+ghost use Rattle.std.specs.Prelude.{◌≡◌, cond, ◌+◌, ◌*◌, ◌/◌, ◌%◌, eqb, ltb};
+ghost use Rattle.wording.specs.Puts.{Puts};
+ghost use Rattle.refusing.specs.Refused.{claim, refused_run, title_number, refused_lines, refused_page};
+
 use columns::View;
-use phrases::PAGES;
-use phrases::VERDICTS;
-use phrases::runs::narrow;
-use phrases::runs::octet_at;
+use phrases::runs::{narrow, octet_at};
 use phrases::sentences::say;
+use phrases::{PAGES, VERDICTS};
 use rules::Verdict;
 
 mod dumps;
 mod levels;
 
 fn pick(c: bool, yes: u16, no: u16) -> u16
-    ensures { λ r. ⌜ r ≡ cond c yes no ⌝ }
+    ensures { result ≡ cond c yes no }
 {
     if c {
         return yes;
@@ -27,7 +23,7 @@ fn pick(c: bool, yes: u16, no: u16) -> u16
 
 // The length that two octets give the message, 0 if it has more than 16 bits.
 fn claim(high: u8, low: u8) -> u16
-    ensures { λ r. ⌜ r ≡ cond (ltb 65535 (high * 256 + low + 4)) 0 (high * 256 + low + 4) ⌝ }
+    ensures { result ≡ cond (ltb 65535 (high * 256 + low + 4)) 0 (high * 256 + low + 4) }
 {
     let n = high as u32 * 256 + low as u32 + 4;
     if 65535 < n {
@@ -38,7 +34,7 @@ fn claim(high: u8, low: u8) -> u16
 
 // The numbers that are said of a refusal.
 fn run(kind: u32, message: &[u8], v: Verdict, reason: u16) -> [u16; 14]
-    ensures { λ r. ⌜ r ≡ refusedRun kind (now (message .entry)) v reason ⌝ }
+    ensures { result ≡ refused_run kind message.now v reason }
 {
     let first = octet_at(message, 0);
     let t = first / 8 % 2 == 1;
@@ -62,7 +58,7 @@ fn run(kind: u32, message: &[u8], v: Verdict, reason: u16) -> [u16; 14]
 
 // 1 to 4 say nothing of the message's type.
 fn title_number(v: Verdict) -> u16
-    ensures { λ r. ⌜ r ≡ titleNumber v ⌝ }
+    ensures { result ≡ title_number v }
 {
     if v.code < 5 {
         return 0;
@@ -71,7 +67,7 @@ fn title_number(v: Verdict) -> u16
 }
 
 fn lines(names: &[u8], v: Verdict, run: &[u16], at: usize, out: &mut [u8]) -> usize
-    ensures { λ r. ⌜ Puts (refusedLines (now (names .entry)) v (now (run .entry))) at (now (out .entry)) r (now (out .exit)) ⌝ }
+    ensures { Puts (refused_lines names.now v run.now) at out.old result out.new }
 {
     let after = say(PAGES, title_number(v), names, run, at, out);
     say(VERDICTS, v.code, names, run, after, out)
@@ -86,7 +82,7 @@ pub fn refused_page(
     at: usize,
     out: &mut [u8],
 ) -> usize
-    ensures { λ r. ⌜ Puts (refusedPage (now (names .entry)) view v (now (message .entry))) at (now (out .entry)) r (now (out .exit)) ⌝ }
+    ensures { Puts (refused_page names.now view v message.now) at out.old result out.new }
 {
     let reason = levels::reason(view.kind, message, v);
     let numbers = run(view.kind, message, v, reason);

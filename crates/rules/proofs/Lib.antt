@@ -14,7 +14,7 @@ pub mod Readings
 pub mod Pairs
 pub mod Covers
 pub mod Late
-pub mod Hidden
+pub mod Unseen
 pub mod Book
 pub mod Reasons
 pub mod Numbers

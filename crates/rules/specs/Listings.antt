@@ -1,10 +1,6 @@
 -- Elements per level, as data: a listing is a list of lines in listing order, one line a pair. Assumes nothing.
-use Prim.Native.Nat.{ℕ, suc}
-use mathlib.Core.Bool.{Bool, true, false, cond, _&&_, _||_}
-use mathlib.Core.List.{List, [], _∷_, _++_}
-use lib.Dec.{eqb, ltb}
-use lib.ListN.{length, getD}
-use Rattle·rules·specs.specs.Types.{among}
+use Rattle.std.specs.Prelude.{ℕ, suc, Bool, true, false, cond, ◌&&◌, ◌||◌, List, [], ◌∷◌, ◌++◌, eqb, ltb, length, get_or}
+use Rattle.rules.specs.Types.{among}
 
 -- the most elements of a pair that may stand directly inside a group
 pub record Limit : Type 0 where
@@ -38,70 +34,70 @@ pub record Book : Type 0 where
 -- ---- the words of a listing
 
 -- interface kinds: 1 = S11, 2 = S4, 3 = S5/S8, 4 = S10
-abbrev pub allKinds : List ℕ
-allKinds = 1 ∷ 2 ∷ 3 ∷ 4 ∷ []
+abbrev pub all_kinds : List ℕ
+all_kinds = 1 ∷ 2 ∷ 3 ∷ 4 ∷ []
 
 -- every instance: an instance has four bits, so none is 16
-abbrev pub anyInstance : ℕ
-anyInstance = 16
+abbrev pub any_instance : ℕ
+any_instance = 16
 
 -- may be absent, once, on every kind, no group
 abbrev pub pair : ℕ → ℕ → Line
-pair t i = record { typ = t; inst = i; must = false; many = false; kinds = allKinds; inside = 0; limits = [] }
+pair t i = record { typ = t; inst = i; must = false; many = false; kinds = all_kinds; inside = 0; limits = [] }
 
 -- the same, and a group, whose inside is that level
 abbrev pub group : ℕ → ℕ → ℕ → Line
-group t i v = record { typ = t; inst = i; must = false; many = false; kinds = allKinds; inside = v; limits = [] }
+group t i v = record { typ = t; inst = i; must = false; many = false; kinds = all_kinds; inside = v; limits = [] }
 
 -- M
 abbrev pub must : Line → Line
-must l = record { typ = l .typ; inst = l .inst; must = true; many = l .many; kinds = l .kinds; inside = l .inside; limits = l .limits }
+must l = record { typ = l.typ; inst = l.inst; must = true; many = l.many; kinds = l.kinds; inside = l.inside; limits = l.limits }
 
 -- *
 abbrev pub many : Line → Line
-many l = record { typ = l .typ; inst = l .inst; must = l .must; many = true; kinds = l .kinds; inside = l .inside; limits = l .limits }
+many l = record { typ = l.typ; inst = l.inst; must = l.must; many = true; kinds = l.kinds; inside = l.inside; limits = l.limits }
 
 -- on these kinds only
 abbrev pub only : List ℕ → Line → Line
-only ks l = record { typ = l .typ; inst = l .inst; must = l .must; many = l .many; kinds = ks; inside = l .inside; limits = l .limits }
+only ks l = record { typ = l.typ; inst = l.inst; must = l.must; many = l.many; kinds = ks; inside = l.inside; limits = l.limits }
 
 -- voided by more than n elements t/i directly inside
-abbrev pub atMost : ℕ → ℕ → ℕ → Line → Line
-atMost n t i l =
-    record { typ = l .typ; inst = l .inst; must = l .must; many = l .many; kinds = l .kinds; inside = l .inside; limits = record { typ = t; inst = i; most = n } ∷ l .limits }
+abbrev pub at_most : ℕ → ℕ → ℕ → Line → Line
+at_most n t i l =
+    record { typ = l.typ; inst = l.inst; must = l.must; many = l.many; kinds = l.kinds; inside = l.inside; limits = record { typ = t; inst = i; most = n } ∷ l.limits }
 
 -- a body's listing has the private extension at its end; a group's has not
 abbrev pub body : List Line → List Line
-body ls = ls ++ (many (pair 255 anyInstance) ∷ [])
+body ls = ls ++ (many (pair 255 any_instance) ∷ [])
 
 -- ---- the levels
 
-abbrev pub in-93/0-of-32 : ℕ
-in-93/0-of-32 = 3
+abbrev pub in_93/0_of_32 : ℕ
+in_93/0_of_32 = 3
 
-abbrev pub in-93/1-of-32 : ℕ
-in-93/1-of-32 = 4
+abbrev pub in_93/1_of_32 : ℕ
+in_93/1_of_32 = 4
 
-abbrev pub in-93/0-of-66 : ℕ
-in-93/0-of-66 = 7
+abbrev pub in_93/0_of_66 : ℕ
+in_93/0_of_66 = 7
 
-abbrev pub in-180 : ℕ
-in-180 = 8
+abbrev pub in_180 : ℕ
+in_180 = 8
 
-abbrev pub in-93/0-of-67 : ℕ
-in-93/0-of-67 = 10
+abbrev pub in_93/0_of_67 : ℕ
+in_93/0_of_67 = 10
 
-abbrev pub in-180/0-of-67 : ℕ
-in-180/0-of-67 = 11
+abbrev pub in_180/0_of_67 : ℕ
+in_180/0_of_67 = 11
 
-abbrev pub in-93/0-of-97 : ℕ
-in-93/0-of-97 = 15
+abbrev pub in_93/0_of_97 : ℕ
+in_93/0_of_97 = 15
 
-abbrev pub in-109/0-of-131 : ℕ
-in-109/0-of-131 = 17
+abbrev pub in_109/0_of_131 : ℕ
+in_109/0_of_131 = 17
 
-abbrev pub in-93/0-of-109/0 : ℕ
-in-93/0-of-109/0 = 18
+abbrev pub in_93/0_of_109/0 : ℕ
+in_93/0_of_109/0 = 18
 
 unfoldable pub levels : List (List Line)
 levels =
@@ -130,8 +126,8 @@ levels =
     pair 127 0 ∷
     pair 72 0 ∷
     pair 78 0 ∷
-    must (many (group 93 0 in-93/0-of-32)) ∷
-    many (group 93 1 in-93/1-of-32) ∷
+    must (many (group 93 0 in_93/0_of_32)) ∷
+    many (group 93 1 in_93/1_of_32) ∷
     pair 96 0 ∷
     pair 3 0 ∷
     pair 132 0 ∷
@@ -162,12 +158,12 @@ levels =
     []) ∷
     -- level 6: 66 Delete Bearer Command
     body (
-    must (many (group 93 0 in-93/0-of-66)) ∷
+    must (many (group 93 0 in_93/0_of_66)) ∷
     pair 86 0 ∷
     pair 170 0 ∷
     pair 114 0 ∷
-    group 180 0 in-180 ∷
-    only (3 ∷ []) (group 180 1 in-180) ∷
+    group 180 0 in_180 ∷
+    only (3 ∷ []) (group 180 1 in_180) ∷
     only (3 ∷ []) (pair 87 0) ∷
     many (only (1 ∷ 3 ∷ []) (pair 201 0)) ∷
     []) ∷
@@ -186,11 +182,11 @@ levels =
     -- level 9: 67 Delete Bearer Failure Indication
     body (
     must (pair 2 0) ∷
-    must (many (group 93 0 in-93/0-of-67)) ∷
+    must (many (group 93 0 in_93/0_of_67)) ∷
     pair 3 0 ∷
     pair 77 0 ∷
-    many (atMost 10 71 0 (group 180 0 in-180/0-of-67)) ∷
-    only (1 ∷ 2 ∷ []) (group 180 1 in-180) ∷
+    many (at_most 10 71 0 (group 180 0 in_180/0_of_67)) ∷
+    only (1 ∷ 2 ∷ []) (group 180 1 in_180) ∷
     []) ∷
     -- level 10: in 93/0 of 67
     (
@@ -223,7 +219,7 @@ levels =
     -- level 14: 97 Update Bearer Request
     body (
     must (pair 1 0) ∷
-    must (many (group 93 0 in-93/0-of-97)) ∷
+    must (many (group 93 0 in_93/0_of_97)) ∷
     pair 100 0 ∷
     pair 78 0 ∷
     must (pair 72 0) ∷
@@ -250,7 +246,7 @@ levels =
     pair 106 0 ∷
     pair 107 0 ∷
     pair 108 0 ∷
-    many (group 109 0 in-109/0-of-131) ∷
+    many (group 109 0 in_109/0_of_131) ∷
     pair 87 0 ∷
     pair 87 1 ∷
     pair 136 0 ∷
@@ -266,7 +262,7 @@ levels =
     must (pair 73 0) ∷
     must (pair 87 0) ∷
     pair 136 0 ∷
-    must (many (group 93 0 in-93/0-of-109/0)) ∷
+    must (many (group 93 0 in_93/0_of_109/0)) ∷
     must (pair 72 0) ∷
     []) ∷
     -- level 18: in 93/0 of 109/0
@@ -292,8 +288,8 @@ mmes = 4 ∷ []
 
 unfoldable pub messages : List Message
 messages =
-    message 1 false allKinds 1 ∷
-    message 2 false allKinds 1 ∷
+    message 1 false all_kinds 1 ∷
+    message 2 false all_kinds 1 ∷
     message 32 true gateways 2 ∷
     message 37 true gateways 5 ∷
     message 66 true gateways 6 ∷
@@ -306,13 +302,13 @@ messages =
 
 -- these listings
 unfoldable pub book : Book
-book = record { kinds = allKinds; messages = messages; levels = levels }
+book = record { kinds = all_kinds; messages = messages; levels = levels }
 
 -- ---- looking a pair up
 
 -- the line lists the pair t/i on kind k
 abbrev pub lists : ℕ → ℕ → ℕ → Line → Bool
-lists k t i l = eqb (l .typ) t && (eqb (l .inst) i || eqb (l .inst) anyInstance) && among k (l .kinds)
+lists k t i l = eqb l.typ t && (eqb l.inst i || eqb l.inst any_instance) && among k l.kinds
 
 -- the number of the first line that lists the pair, or the number of lines
 unfoldable pub seek : List Line → ℕ → ℕ → ℕ → ℕ
@@ -320,23 +316,23 @@ seek [] k t i = 0
 seek (l ∷ ls) k t i = cond (lists k t i l) 0 (suc (seek ls k t i))
 
 -- what is said of a pair that is not listed
-abbrev pub noLine : Line
-noLine = record { typ = 0; inst = 0; must = false; many = false; kinds = []; inside = 0; limits = [] }
+abbrev pub empty_line : Line
+empty_line = record { typ = 0; inst = 0; must = false; many = false; kinds = []; inside = 0; limits = [] }
 
-abbrev pub noMessage : Message
-noMessage = message 0 false [] 0
+abbrev pub no_message : Message
+no_message = message 0 false [] 0
 
 -- the number of the first message of that type, or the number of messages
-unfoldable pub seekMessage : List Message → ℕ → ℕ
-seekMessage [] t = 0
-seekMessage (x ∷ xs) t = cond (eqb (x .typ) t) 0 (suc (seekMessage xs t))
+unfoldable pub seek_message : List Message → ℕ → ℕ
+seek_message [] t = 0
+seek_message (x ∷ xs) t = cond (eqb x.typ t) 0 (suc (seek_message xs t))
 
 module _ (b : Book) where
   unfoldable pub listing : ℕ → List Line
-  listing v = getD (b .levels) v []
+  listing v = get_or b.levels v []
 
-  unfoldable pub messageOf : ℕ → Message
-  messageOf t = getD (b .messages) (seekMessage (b .messages) t) noMessage
+  unfoldable pub message_of : ℕ → Message
+  message_of t = get_or b.messages (seek_message b.messages t) no_message
 
-  unfoldable pub isMessage : ℕ → Bool
-  isMessage t = ltb (seekMessage (b .messages) t) (length (b .messages))
+  unfoldable pub is_message : ℕ → Bool
+  is_message t = ltb (seek_message b.messages t) (length b.messages)

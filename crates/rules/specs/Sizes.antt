@@ -1,30 +1,30 @@
 -- The sizes that the rules name, each in one place. Assumes nothing.
-use Prim.Native.Nat.{ℕ, _+_, _*_}
+use Rattle.std.specs.Prelude.{ℕ, ◌+◌, ◌*◌}
 
 -- a message has at most 4,096 octets
-abbrev pub largestMessage : ℕ
-largestMessage = 4096
+abbrev pub largest_message : ℕ
+largest_message = 4096
 
 -- a message of that size holds at most 1,022 elements
-abbrev pub mostRows : ℕ
-mostRows = 1022
+abbrev pub most_rows : ℕ
+most_rows = 1022
 
 -- the numbers of a table's header, which is also the place of the first row
-abbrev pub headerNumbers : ℕ
-headerNumbers = 6
+abbrev pub header_numbers : ℕ
+header_numbers = 6
 
 -- the numbers of a row
-abbrev pub rowNumbers : ℕ
-rowNumbers = 6
+abbrev pub row_numbers : ℕ
+row_numbers = 6
 
 -- the numbers that a table of so many rows uses
 abbrev pub used : ℕ → ℕ
-used rows = headerNumbers + rowNumbers * rows
+used rows = header_numbers + row_numbers * rows
 
 -- the octets of the five numbers of a verdict
-abbrev pub fiveOctets : ℕ
-fiveOctets = 10
+abbrev pub five_octets : ℕ
+five_octets = 10
 
 -- and with the length of what is written
-abbrev pub answerOctets : ℕ
-answerOctets = 12
+abbrev pub answer_octets : ℕ
+answer_octets = 12

@@ -1,34 +1,30 @@
 -- The table: a header of six numbers, then six an element (rules 5.1, 5.2). Assumes nothing.
-use Prim.Native.Nat.{ℕ, suc, _+_, _*_, _/_}
-use mathlib.Core.Bool.{Bool, true, false, cond}
-use mathlib.Core.List.{List, [], _∷_, _++_}
-use lib.Dec.{eqb}
-use lib.ListN.{length, take, drop, getD}
-use Rattle·rules·specs.specs.Sizes.{headerNumbers, rowNumbers, used}
-use Rattle·rules·specs.specs.Standing.{Item, kept, valuePlace}
+use Rattle.std.specs.Prelude.{ℕ, suc, ◌+◌, ◌*◌, ◌/◌, Bool, true, false, cond, List, [], ◌∷◌, ◌++◌, eqb, length, take, drop, get_or}
+use Rattle.rules.specs.Sizes.{header_numbers, row_numbers, used}
+use Rattle.rules.specs.Standing.{Item, kept, value_place}
 
 -- per element: parent, type, instance, value place, value length, standing
 abbrev pub row : Item → List ℕ
-row i = i .parent ∷ i .typ ∷ i .inst ∷ valuePlace i ∷ i .len ∷ i .stand ∷ []
+row i = i.parent ∷ i.typ ∷ i.inst ∷ value_place i ∷ i.len ∷ i.stand ∷ []
 
-unfoldable pub rowsOf : List Item → List ℕ
-rowsOf [] = []
-rowsOf (i ∷ is) = row i ++ rowsOf is
+unfoldable pub rows_of : List Item → List ℕ
+rows_of [] = []
+rows_of (i ∷ is) = row i ++ rows_of is
 
-unfoldable pub keptRows : List Item → ℕ
-keptRows [] = 0
-keptRows (i ∷ is) = cond (eqb (i .stand) kept) (suc (keptRows is)) (keptRows is)
+unfoldable pub kept_rows : List Item → ℕ
+kept_rows [] = 0
+kept_rows (i ∷ is) = cond (eqb i.stand kept) (suc (kept_rows is)) (kept_rows is)
 
 -- rows, kept rows, place of the first row, numbers used; then what it is a table of: message type, kind
 unfoldable pub header : ℕ → ℕ → List Item → List ℕ
-header typ k is = length is ∷ keptRows is ∷ headerNumbers ∷ used (length is) ∷ typ ∷ k ∷ []
+header typ k is = length is ∷ kept_rows is ∷ header_numbers ∷ used (length is) ∷ typ ∷ k ∷ []
 
-unfoldable pub tableOf : ℕ → ℕ → List Item → List ℕ
-tableOf typ k is = header typ k is ++ rowsOf is
+unfoldable pub table_of : ℕ → ℕ → List Item → List ℕ
+table_of typ k is = header typ k is ++ rows_of is
 
 -- a table's numbers by its counts, from rows that stand at the start of a run of numbers
-abbrev pub numbersBy : ℕ → ℕ → ℕ → ℕ → List ℕ → List ℕ
-numbersBy n kept typ k rows = n ∷ kept ∷ headerNumbers ∷ used n ∷ typ ∷ k ∷ take (rowNumbers * n) rows
+abbrev pub numbers_by : ℕ → ℕ → ℕ → ℕ → List ℕ → List ℕ
+numbers_by n kept typ k rows = n ∷ kept ∷ header_numbers ∷ used n ∷ typ ∷ k ∷ take (row_numbers * n) rows
 
 -- numbers laid over the start of what is lent: those past the ones used stay
 unfoldable pub laid : List ℕ → List ℕ → List ℕ
@@ -36,11 +32,11 @@ laid xs lent = xs ++ drop (length xs) lent
 
 -- the rows of which a run of n numbers has room
 abbrev pub fitting : ℕ → List Item → List Item
-fitting n is = take (n / rowNumbers) is
+fitting n is = take (n / row_numbers) is
 
 -- element number j of those taken, counted from 0; past their end an element of zeros
-abbrev pub noItem : Item
-noItem = record { parent = 0; place = 0; typ = 0; inst = 0; len = 0; stand = 0; must = false; inside = 0; hidden = [] }
+abbrev pub no_item : Item
+no_item = record { parent = 0; place = 0; typ = 0; inst = 0; len = 0; stand = 0; must = false; inside = 0; hidden = [] }
 
 abbrev pub nth : List Item → ℕ → Item
-nth is j = getD is j noItem
+nth is j = get_or is j no_item

@@ -1,13 +1,10 @@
 -- Elements are taken from the first octet on, and an entered group's inside before what stands behind it (rule 2.4). What is made of them is left open: `one s i` is s after
 -- the element i, `shut s v m o` is s at the end of a level, and `number s` is the number of the row taken last. Assumes nothing.
-use Prim.Native.Nat.{ℕ, zero, suc, _+_}
-use mathlib.Core.Bool.{Bool, true, false, cond}
-use mathlib.Core.List.{List, [], _∷_, _++_}
-use lib.ListN.{length, take, drop}
-use Rattle·rules·specs.specs.Framing.{elementHeader, headerLength, messageType}
-use Rattle·rules·specs.specs.Listings.{Book, Message, messageOf}
-use Rattle·rules·specs.specs.Standing.{Item, fresh, itemOf, marked, entered}
-use Rattle·rules·specs.specs.Frames.{Element, seen}
+use Rattle.std.specs.Prelude.{ℕ, zero, suc, ◌+◌, Bool, true, false, cond, List, [], ◌∷◌, ◌++◌, length, take, drop}
+use Rattle.rules.specs.Framing.{element_header, header_length, message_type}
+use Rattle.rules.specs.Listings.{Book, Message, message_of}
+use Rattle.rules.specs.Standing.{Item, fresh, item_of, marked, entered}
+use Rattle.rules.specs.Frames.{Element, seen}
 
 -- A run of elements is cut at the place of an element or remnant that does not lie in what its level has left, or it is whole.
 pub data Out (S : Type 0) : Type 0 where
@@ -26,15 +23,15 @@ module _ (b : Book) (k : ℕ) (S : Type 0) (one : S → Item → S) (shut : S �
   -- the inside of a group whose first octet is at o: a run like any other, with no pair seen; level 0 is not entered
   abbrev pub enter : Walker → ℕ → ℕ → List ℕ → S → Out S
   enter rec zero o xs s = whole s
-  enter rec (suc v) o xs s = rec (suc v) fresh (number s) o (o + elementHeader) xs s
+  enter rec (suc v) o xs s = rec (suc v) fresh (number s) o (o + element_header) xs s
 
   -- one element and its inside, measured against what its own level has left; then what follows
   abbrev pub step : Walker → ℕ → List ℕ → ℕ → ℕ → ℕ → List ℕ → Element → S → Out S
   step rec v m p o at xs h s =
-      cond (h .whole)
+      cond h.whole
       (after
-      (enter rec (entered b k v m h) at (take (h .len) (drop elementHeader xs)) (one s (itemOf b k v m p at h)))
-      (rec v (marked b k v m h) p o (at + elementHeader + h .len) (drop (elementHeader + h .len) xs)))
+      (enter rec (entered b k v m h) at (take h.len (drop element_header xs)) (one s (item_of b k v m p at h)))
+      (rec v (marked b k v m h) p o (at + element_header + h.len) (drop (element_header + h.len) xs)))
       (cut at s)
 
   -- the first argument is how many turns may be taken: with as many as there are octets it never runs out
@@ -51,26 +48,26 @@ module _ (b : Book) (k : ℕ) (S : Type 0) (one : S → Item → S) (shut : S �
 
 -- ---- the elements themselves, in a list
 
-abbrev pub addItem : List Item → Item → List Item
-addItem is i = is ++ (i ∷ [])
+abbrev pub add_item : List Item → Item → List Item
+add_item is i = is ++ (i ∷ [])
 
-abbrev pub atEnd : List Item → ℕ → List ℕ → ℕ → List Item
-atEnd is v m o = is
+abbrev pub at_end : List Item → ℕ → List ℕ → ℕ → List Item
+at_end is v m o = is
 
 -- the elements of a run of level v at place `at`
-unfoldable pub itemsOf : Book → ℕ → ℕ → ℕ → List ℕ → Out (List Item)
-itemsOf b k v at xs = walk b k (List Item) addItem atEnd length v fresh 0 0 at xs []
+unfoldable pub items_of : Book → ℕ → ℕ → ℕ → List ℕ → Out (List Item)
+items_of b k v at xs = walk b k (List Item) add_item at_end length v fresh 0 0 at xs []
 
 module _ (b : Book) where
   -- the level of a message's body
-  unfoldable pub bodyLevel : List ℕ → ℕ
-  bodyLevel m = messageOf b (messageType m) .body
+  unfoldable pub body_level : List ℕ → ℕ
+  body_level m = (message_of b (message_type m)).body
 
   -- the elements taken of a message
   unfoldable pub taken : ℕ → List ℕ → Out (List Item)
-  taken k m = itemsOf b k (bodyLevel m) (headerLength m) (drop (headerLength m) m)
+  taken k m = items_of b k (body_level m) (header_length m) (drop (header_length m) m)
 
 -- those taken, up to the cut if there is one
-abbrev pub itemsIn : Out (List Item) → List Item
-itemsIn (cut q is) = is
-itemsIn (whole is) = is
+abbrev pub items_in : Out (List Item) → List Item
+items_in (cut q is) = is
+items_in (whole is) = is

@@ -13,10 +13,7 @@
 --     152 Node Features         156 EPC Timer                    170 ULI Timestamp         172 RAN/NAS Cause
 --     180 Overload Control Information                           182 Metric                183 Sequence Number
 --     201 Secondary RAT Usage Data Report                        255 Private Extension
-use Prim.Native.Nat.{ℕ, _+_, _/_, _%_}
-use mathlib.Core.Bool.{Bool, true, false, cond, _||_}
-use mathlib.Core.List.{List, [], _∷_}
-use lib.Dec.{eqb, ltb}
+use Rattle.std.specs.Prelude.{ℕ, ◌+◌, ◌/◌, ◌%◌, Bool, true, false, cond, ◌||◌, List, [], ◌∷◌, eqb, ltb}
 
 -- a number stands in a list
 abbrev pub among : ℕ → List ℕ → Bool
@@ -62,11 +59,11 @@ parteds =
 -- what the first octet f adds
 abbrev pub added : List Part → ℕ → ℕ
 added [] f = 0
-added (p ∷ ps) f = cond (eqb (f / p .divisor % p .modulus) (p .is)) (p .size) 0 + added ps f
+added (p ∷ ps) f = cond (eqb (f / p.divisor % p.modulus) p.is) p.size 0 + added ps f
 
 -- every other type: by its number alone
-unfoldable pub leastByType : ℕ → ℕ
-leastByType t =
+unfoldable pub least_by_type : ℕ → ℕ
+least_by_type t =
     cond (among t (93 ∷ 109 ∷ 180 ∷ [])) 0
     (cond (among t (2 ∷ 95 ∷ 114 ∷ 255 ∷ [])) 2
     (cond (eqb t 83) 3
@@ -76,41 +73,41 @@ leastByType t =
     (cond (eqb t 80) 22 1))))))
 
 -- the least length of a value of type t whose first octet is f; an empty value reads as first octet 0, and is short if its type has parts
-abbrev pub leastAmong : List Parted → ℕ → ℕ → ℕ
-leastAmong [] t f = leastByType t
-leastAmong (p ∷ ps) t f = cond (eqb t (p .typ)) (p .base + added (p .parts) f) (leastAmong ps t f)
+abbrev pub least_among : List Parted → ℕ → ℕ → ℕ
+least_among [] t f = least_by_type t
+least_among (p ∷ ps) t f = cond (eqb t p.typ) (p.base + added p.parts f) (least_among ps t f)
 
-unfoldable pub leastOf : ℕ → ℕ → ℕ
-leastOf t f = leastAmong parteds t f
+unfoldable pub least_of : ℕ → ℕ → ℕ
+least_of t f = least_among parteds t f
 
 -- does the first octet bear on it?
 abbrev pub parted : List Parted → ℕ → Bool
 parted [] t = false
-parted (p ∷ ps) t = eqb t (p .typ) || parted ps t
+parted (p ∷ ps) t = eqb t p.typ || parted ps t
 
-unfoldable pub isParted : ℕ → Bool
-isParted t = parted parteds t
+unfoldable pub is_parted : ℕ → Bool
+is_parted t = parted parteds t
 
 -- ---- groups are 93, 109 and 180
 
 unfoldable pub groups : List ℕ
 groups = 93 ∷ 109 ∷ 180 ∷ []
 
-unfoldable pub isGroup : ℕ → Bool
-isGroup t = among t groups
+unfoldable pub is_group : ℕ → Bool
+is_group t = among t groups
 
 -- ---- cover for the type's sake
 
 -- the whole value
-unfoldable pub wholeTypes : List ℕ
-wholeTypes = 1 ∷ 74 ∷ 75 ∷ 76 ∷ 78 ∷ 103 ∷ 104 ∷ 105 ∷ 106 ∷ 107 ∷ 108 ∷ 255 ∷ []
+unfoldable pub whole_types : List ℕ
+whole_types = 1 ∷ 74 ∷ 75 ∷ 76 ∷ 78 ∷ 103 ∷ 104 ∷ 105 ∷ 106 ∷ 107 ∷ 108 ∷ 255 ∷ []
 
-unfoldable pub coversWhole : ℕ → Bool
-coversWhole t = among t wholeTypes
+unfoldable pub covers_whole : ℕ → Bool
+covers_whole t = among t whole_types
 
 -- all but the first value octet, which the least length hangs on
-unfoldable pub restTypes : List ℕ
-restTypes = 79 ∷ 86 ∷ []
+unfoldable pub rest_types : List ℕ
+rest_types = 79 ∷ 86 ∷ []
 
-unfoldable pub coversRest : ℕ → Bool
-coversRest t = among t restTypes
+unfoldable pub covers_rest : ℕ → Bool
+covers_rest t = among t rest_types

@@ -1,8 +1,5 @@
 -- A run of zeros: what a scratch holds before it is written. Assumes nothing.
-use mathlib.Core.Path.{_≡_}
-use mathlib.Core.List.{List}
-use Prim.Native.Nat.{ℕ}
-use lib.ListN.{length, replicate}
+use Rattle.std.specs.Prelude.{◌≡◌, List, ℕ, length, replicate}
 
 pub record Zeros (n : ℕ) (r : List ℕ) : Type 0 where
   pub is : r ≡ replicate n 0

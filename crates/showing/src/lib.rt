@@ -1,29 +1,27 @@
 // The desk's page on a message, with the values that the viewer may see.
-ghost use mathlib.Core.Path.{_≡_};
-ghost use Prim.Native.Nat.{_≤_};
-ghost use lib.ListN.{length, replicate};
-ghost use Rattle·rules.specs.Sizes.{mostRows, used};
-ghost use Rattle·rules.specs.Types.{among};
-ghost use Rattle·verdicts.specs.Conditions.{copyingNumbers};
-ghost use Rattle·scratch.specs.Zeros.{Zeros};
-ghost use Rattle·wording.specs.Puts.{Puts};
-ghost use Rattle·showing·specs.specs.Showing.{copyRoom, readPage, pageOf, pageOn, Listed};
+ghost use Rattle.std.specs.Prelude.{◌≡◌, ◌≤◌, length, replicate};
+ghost use Rattle.rules.specs.Sizes.{most_rows, used};
+ghost use Rattle.rules.specs.Types.{among};
+ghost use Rattle.verdicts.specs.Conditions.{copying_numbers};
+ghost use Rattle.scratch.specs.Zeros.{Zeros};
+ghost use Rattle.wording.specs.Puts.{Puts};
+ghost use Rattle.showing.specs.Showing.{copy_room, read_page, page_of, page_on, Listed};
+
 use columns::View;
-use phrases::runs::narrow;
-use phrases::runs::octet_at;
+use phrases::runs::{narrow, octet_at};
 use rules::Verdict;
 
 // Room for the copy of any message that is read.
 fn copy_room() -> [u8; 4097]
-    ensures { λ r. ⌜ r ≡ replicate 4097 0 ⌝ }
+    ensures { result ≡ replicate 4097 0 }
 {
     [0; 4097]
 }
 
 // The verdict on a message, its rows in a table, whether 11 or 12 refuse it or not, and its masked copy.
 fn list(kind: u32, message: &[u8], table: &mut [u16], copy: &mut [u8]) -> Verdict
-    requires { ⌜ Zeros (used mostRows) (now table) × (now copy ≡ copyRoom (now message)) ⌝ }
-    ensures { λ r. ⌜ Listed kind (now (message .entry)) r (now (table .exit)) (now (copy .exit)) ⌝ }
+    requires { Zeros (used most_rows) table.old × (copy.old ≡ copy_room message.now) }
+    ensures { Listed kind message.now result table.new copy.new }
 {
     let d = calling::decide(kind, message, &mut table[6..], 6138, copy);
     let typ = octet_at(message, 1) as u16;
@@ -34,7 +32,7 @@ fn list(kind: u32, message: &[u8], table: &mut [u16], copy: &mut [u8]) -> Verdic
 
 // Is it a verdict with which a copy is made?
 fn copies(v: Verdict) -> bool
-    ensures { λ r. ⌜ r ≡ among (v .code) copyingNumbers ⌝ }
+    ensures { result ≡ among v.code copying_numbers }
 {
     let code = v.code;
     if code == 0 {
@@ -59,7 +57,7 @@ fn read_page<'a>(
     copy: &'a [u8],
     out: &mut [u8],
 ) -> usize
-    ensures { λ r. ⌜ Puts (readPage (now (names .entry)) view v (now (table .entry)) (now (message .entry)) (now (copy .entry))) 0 (now (out .entry)) r (now (out .exit)) ⌝ }
+    ensures { Puts (read_page names.now view v table.now message.now copy.now) 0 out.old result out.new }
 {
     let after = titles::title(names, view.kind, v, table, copy, 0, out);
     columns::lines(names, view, v, table, message, copy, after, out)
@@ -67,8 +65,8 @@ fn read_page<'a>(
 
 // The page on a message, by way of a copy as long as it is.
 fn copied_page(names: &[u8], view: View, message: &[u8], copy: &mut [u8], out: &mut [u8]) -> usize
-    requires { ⌜ now copy ≡ copyRoom (now message) ⌝ }
-    ensures { λ r. ⌜ Puts (pageOf (now (names .entry)) view (now (message .entry))) 0 (now (out .entry)) r (now (out .exit)) ⌝ }
+    requires { copy.old ≡ copy_room message.now }
+    ensures { Puts (page_of names.now view message.now) 0 out.old result out.new }
 {
     let mut table = scratch::table();
     let v = list(view.kind, message, &mut table, copy);
@@ -80,8 +78,8 @@ fn copied_page(names: &[u8], view: View, message: &[u8], copy: &mut [u8], out: &
 
 // The same, by way of a longer copy.
 fn page_by(names: &[u8], view: View, message: &[u8], room: &mut [u8], out: &mut [u8]) -> usize
-    requires { ⌜ (length (now message) ≤ 4097) × (now room ≡ replicate 4097 0) ⌝ }
-    ensures { λ r. ⌜ Puts (pageOf (now (names .entry)) view (now (message .entry))) 0 (now (out .entry)) r (now (out .exit)) ⌝ }
+    requires { (length message.now ≤ 4097) × (room.old ≡ replicate 4097 0) }
+    ensures { Puts (page_of names.now view message.now) 0 out.old result out.new }
 {
     let size = message.len();
     copied_page(names, view, message, &mut room[..size], out)
@@ -89,7 +87,7 @@ fn page_by(names: &[u8], view: View, message: &[u8], room: &mut [u8], out: &mut 
 
 // The page on a message, of which 4,097 octets are enough to see that it is too long.
 pub fn page(names: &[u8], view: View, message: &[u8], out: &mut [u8]) -> usize
-    ensures { λ r. ⌜ Puts (pageOn (now (names .entry)) view (now (message .entry))) 0 (now (out .entry)) r (now (out .exit)) ⌝ }
+    ensures { Puts (page_on names.now view message.now) 0 out.old result out.new }
 {
     let mut room = copy_room();
     if message.len() <= 4097 {

@@ -1,12 +1,10 @@
 -- A place with a pair as one number, of which 0 is none: which of two is given. Assumes nothing.
-use Prim.Native.Nat.{ℕ}
-use mathlib.Core.Bool.{Bool, cond, _&&_}
-use lib.Dec.{eqb, leb}
-use Rattle·rules.specs.Standing.{short}
+use Rattle.std.specs.Prelude.{ℕ, Bool, cond, ◌&&◌, eqb, leb}
+use Rattle.rules.specs.Standing.{short}
 
 -- the first stays; one is given only for a mandatory element that is short
-abbrev pub firstFault : ℕ → Bool → ℕ → ℕ → ℕ
-firstFault f must stand g = cond (eqb f 0 && must && eqb stand short) g f
+abbrev pub first_fault : ℕ → Bool → ℕ → ℕ → ℕ
+first_fault f must stand g = cond (eqb f 0 && must && eqb stand short) g f
 
 -- the lesser of two
 unfoldable pub lesser : ℕ → ℕ → ℕ

@@ -1,12 +1,10 @@
 // The standing of an element whose pair is listed, the mark that it leaves, and which of two faults comes first.
-ghost use mathlib.Core.Path.{_≡_};
-ghost use mathlib.Core.Bool.{cond, not, _&&_};
-ghost use lib.Dec.{eqb};
-ghost use Rattle·rules.specs.Standing.{markAfter};
-ghost use Rattle·standings·specs.specs.Faults.{firstFault, lesser};
+ghost use Rattle.std.specs.Prelude.{◌≡◌, cond, not, ◌&&◌, eqb};
+ghost use Rattle.rules.specs.Standing.{mark_after};
+ghost use Rattle.standings.specs.Faults.{first_fault, lesser};
 
 fn sized(short: bool, over: bool) -> u8
-    ensures { λ r. ⌜ r ≡ cond short 3 (cond over 4 0) ⌝ }
+    ensures { result ≡ cond short 3 (cond over 4 0) }
 {
     if short {
         return 3;
@@ -19,7 +17,7 @@ fn sized(short: bool, over: bool) -> u8
 
 // A repeat where its pair may stand once and has stood, short or not; else by its size, and by what it holds.
 pub fn listed_standing(many: bool, mark: u8, short: bool, over: bool) -> u8
-    ensures { λ r. ⌜ r ≡ cond (not many && not (eqb mark 0)) 2 (cond short 3 (cond over 4 0)) ⌝ }
+    ensures { result ≡ cond (not many && not (eqb mark 0)) 2 (cond short 3 (cond over 4 0)) }
 {
     if many {
         return sized(short, over);
@@ -31,7 +29,7 @@ pub fn listed_standing(many: bool, mark: u8, short: bool, over: bool) -> u8
 }
 
 pub fn mark_after(old: u8, stand: u8) -> u8
-    ensures { λ r. ⌜ r ≡ markAfter old stand ⌝ }
+    ensures { result ≡ mark_after old stand }
 {
     if stand == 0 {
         return 2;
@@ -47,7 +45,7 @@ pub fn mark_after(old: u8, stand: u8) -> u8
 
 // The first mandatory short element: `now`, of an element that stands so, if none came before. 0 is none.
 pub fn first_fault(before: usize, must: bool, stand: u8, now: usize) -> usize
-    ensures { λ r. ⌜ r ≡ firstFault before must stand now ⌝ }
+    ensures { result ≡ first_fault before must stand now }
 {
     if before == 0 {
         if must {
@@ -61,7 +59,7 @@ pub fn first_fault(before: usize, must: bool, stand: u8, now: usize) -> usize
 
 // The lesser of two, 0 being none.
 pub fn lesser_of(f: usize, l: usize) -> usize
-    ensures { λ r. ⌜ r ≡ lesser f l ⌝ }
+    ensures { result ≡ lesser f l }
 {
     if l == 0 {
         return f;

@@ -1,48 +1,48 @@
 -- A count over a value's frames, one element after another, and that it is what the listings' limits ask. Assumes nothing.
 --     crowd-none, crowd-cut, crowd-more   one turn          over-is   a limited line is over its limit where its value is crowded
-use mathlib.Core.Path.{_≡_, refl, sym, ap, _∙_}
-use mathlib.Core.Bool.{Bool, true, false, cond, not, _&&_, _||_, or-false}
-use mathlib.Core.List.{List, [], _∷_}
-use Prim.Native.Nat.{ℕ, zero, suc, _+_, _-_, _≤_, _<_}
+use mathlib.Core.Path.{◌≡◌, refl, sym, ap, ◌∙◌}
+use mathlib.Core.Bool.{Bool, true, false, cond, not, ◌&&◌, ◌||◌, or-false}
+use mathlib.Core.List.{List, [], ◌∷◌}
+use Prim.Native.Nat.{ℕ, zero, suc, ◌+◌, ◌-◌, ◌≤◌, ◌<◌}
 use native.Mathlib.Omega.{arith}
 use native.Mathlib.Nat.{add-zero, zero-add}
 use borrow.Author.Tests.{eqb-true, le-ltb}
 use lib.Dec.{eqb, ltb}
-use lib.ListN.{length, take, drop, getD, length-drop}
+use lib.ListN.{length, take, drop, get_or, length-drop}
 use lib.Seq.{drop-drop}
-use Rattle·rules.specs.Framing.{elementHeader, headOf}
-use Rattle·rules.specs.Listings.{Limit, Line, noLine, levels, book, listing}
-use Rattle·rules.specs.Frames.{Frame, filledBy, framesBy, framesOf, tally, exceeds}
-use Rattle·rules.specs.Sound.{everyLine, noLimits, isFree}
-use Rattle·rules.specs.declared.Head.{Head}
-use Rattle·rules.proofs.Lines.{and-left, and-right, every-line-at}
-use Rattle·rules.proofs.Frames.{frames-enough}
-use Rattle·rules.proofs.Walks.{rest-shorter}
-use Rattle·rules.proofs.Covers.{free-exceeds}
-use Rattle·taking·specs.specs.Frames.{apn, mostApns, crowdFrom, crowd, onlyApns, apnsAlone, IsApn}
-use Rattle·taking·specs.specs.Held.{Looked}
+use Rattle.rules.specs.Framing.{element_header, head_of}
+use Rattle.rules.specs.Listings.{Limit, Line, empty_line, levels, book, listing}
+use Rattle.rules.specs.Frames.{Frame, filled_by, frames_by, frames_of, tally, exceeds}
+use Rattle.rules.specs.Sound.{every_line, no_limits, is_free}
+use Rattle.rules.specs.declared.Head.{Head}
+use Rattle.rules.proofs.Lines.{and_left, and_right, every-line-at}
+use Rattle.rules.proofs.Frames.{frames-enough}
+use Rattle.rules.proofs.Walks.{rest_shorter}
+use Rattle.rules.proofs.Covers.{free-exceeds}
+use Rattle.taking.specs.Frames.{apn, most_apns, crowd_from, crowd, only_apns, apns_alone, IsApn}
+use Rattle.taking.specs.Held.{Looked}
 
 -- ---- one turn
 
-pub crowd-none : (n : ℕ) (xs : List ℕ) → length xs ≡ 0 → crowdFrom n xs ≡ ltb mostApns n
-unfolding crowdFrom filledBy framesBy tally
+pub crowd-none : (n : ℕ) (xs : List ℕ) → length xs ≡ 0 → crowd_from n xs ≡ ltb most_apns n
+unfolding crowd_from filled_by frames_by tally
 crowd-none n [] e = rw add-zero
 crowd-none n (x ∷ xs) e = absurd (omega arith)
 
-pub crowd-cut : (n : ℕ) (xs : List ℕ) → 0 < length xs → headOf xs .whole ≡ false → crowdFrom n xs ≡ false
-unfolding crowdFrom filledBy
+pub crowd-cut : (n : ℕ) (xs : List ℕ) → 0 < length xs → (head_of xs).whole ≡ false → crowd_from n xs ≡ false
+unfolding crowd_from filled_by
 crowd-cut n [] l e = absurd (omega arith)
 crowd-cut n (x ∷ xs) l e = rw e
 
-pub crowd-more : (n : ℕ) (xs : List ℕ) → 0 < length xs → headOf xs .whole ≡ true
-    → crowdFrom n xs ≡ crowdFrom (n + cond (eqb (headOf xs .typ) apn && eqb (headOf xs .inst) 0) 1 0) (drop (elementHeader + headOf xs .len) xs)
-unfolding crowdFrom filledBy framesBy tally
+pub crowd-more : (n : ℕ) (xs : List ℕ) → 0 < length xs → (head_of xs).whole ≡ true
+    → crowd_from n xs ≡ crowd_from (n + cond (eqb (head_of xs).typ apn && eqb (head_of xs).inst 0) 1 0) (drop (element_header + (head_of xs).len) xs)
+unfolding crowd_from filled_by frames_by tally
 crowd-more n [] l e = absurd (omega arith)
 crowd-more n (x ∷ xs) l e =
-    let ys = drop (elementHeader + headOf (x ∷ xs) .len) (x ∷ xs) in
-    let s = rest-shorter (headOf (x ∷ xs) .len) (x ∷ xs) (omega arith) in
+    let ys = drop (element_header + (head_of (x ∷ xs)).len) (x ∷ xs) in
+    let s = rest_shorter (head_of (x ∷ xs)).len (x ∷ xs) (omega arith) in
     let r = frames-enough (length xs) (length ys) ys (omega (arith, s)) (omega arith) in
-    rw (e, r .0, r .1) (ap (λ (z : ℕ). filledBy (length ys) ys && ltb mostApns z) (go (eqb (headOf (x ∷ xs) .typ) apn && eqb (headOf (x ∷ xs) .inst) 0) (tally apn 0 (framesBy (length ys) ys))))
+    rw (e, r.0, r.1) (ap (λ (z : ℕ). filled_by (length ys) ys && ltb most_apns z) (go (eqb (head_of (x ∷ xs)).typ apn && eqb (head_of (x ∷ xs)).inst 0) (tally apn 0 (frames_by (length ys) ys))))
   where
     go : (c : Bool) (k : ℕ) → n + cond c (suc k) k ≡ n + cond c 1 0 + k
     go true k = omega arith
@@ -52,69 +52,69 @@ crowd-more n (x ∷ xs) l e =
 pub record Crowding (value : List ℕ) (at n : ℕ) : Type 0 where
   pub passed : at ≤ length value
   pub few : n ≤ at
-  pub goes : crowdFrom n (drop at value) ≡ crowd value
+  pub goes : crowd_from n (drop at value) ≡ crowd value
 
 pub crowd-begins : (value : List ℕ) → Crowding value 0 0
 unfolding crowd
 crowd-begins value = record { passed = omega arith; few = omega arith; goes = refl }
 
 module _ {value : List ℕ} {at n : ℕ} (s : Crowding value at n) where
-  pub crowd-ends : length value ≤ at → ltb mostApns n ≡ crowd value
-  crowd-ends l = sym (crowd-none n (drop at value) (simp length-drop (omega arith))) ∙ s .goes
+  pub crowd-ends : length value ≤ at → ltb most_apns n ≡ crowd value
+  crowd-ends l = sym (crowd-none n (drop at value) (simp length-drop (omega arith))) ∙ s.goes
 
   module _ (l : at < length value) (h : Head) (k : Looked value at h) where
     pos : 0 < length (drop at value)
     pos = simp length-drop (omega arith)
 
-    pub crowd-breaks : h .whole ≡ false → false ≡ crowd value
-    crowd-breaks w = sym (crowd-cut n (drop at value) pos (ap (λ (x : Head). x .whole) (sym (k .is)) ∙ w)) ∙ s .goes
+    pub crowd-breaks : h.whole ≡ false → false ≡ crowd value
+    crowd-breaks w = sym (crowd-cut n (drop at value) pos (ap (λ (x : Head). x.whole) (sym k.is) ∙ w)) ∙ s.goes
 
-    pub crowd-turns : h .whole ≡ true → {r : ℕ} → IsApn (h .typ) (h .inst) r → Crowding value (at + (4 + h .len)) (n + r)
+    pub crowd-turns : h.whole ≡ true → {r : ℕ} → IsApn h.typ h.inst r → Crowding value (at + (4 + h.len)) (n + r)
     crowd-turns w {r} a =
-        let e = crowd-more n (drop at value) pos (ap (λ (x : Head). x .whole) (sym (k .is)) ∙ w) in
-        let d = drop-drop (4 + h .len) at value in
+        let e = crowd-more n (drop at value) pos (ap (λ (x : Head). x.whole) (sym k.is) ∙ w) in
+        let d = drop-drop (4 + h.len) at value in
         record {
-          passed = omega (arith, k .lies w);
-          few = omega (arith, s .few, a .low);
-          goes = rw (a .is) (sym (rw (← k .is, d) at e) ∙ s .goes);
+          passed = omega (arith, k.lies w);
+          few = omega (arith, s.few, a.low);
+          goes = rw a.is (sym (rw (← k.is, d) at e) ∙ s.goes);
         }
 
 -- ---- the limits of the listings
 
-apns-only : apnsAlone (book .levels) ≡ true
-unfolding book levels apnsAlone everyLine
+apns-only : apns_alone book.levels ≡ true
+unfolding book levels apns_alone every_line
 apns-only = refl
 
-levels-apns : (lss : List (List Line)) → apnsAlone lss ≡ true → (v j : ℕ) → j < length (getD lss v []) → onlyApns (getD (getD lss v []) j noLine .limits) ≡ true
-unfolding apnsAlone
+levels-apns : (lss : List (List Line)) → apns_alone lss ≡ true → (v j : ℕ) → j < length (get_or lss v []) → only_apns (get_or (get_or lss v []) j empty_line).limits ≡ true
+unfolding apns_alone
 levels-apns [] e v j h = absurd (omega arith)
-levels-apns (ls ∷ lss) e zero j h = every-line-at (λ l. onlyApns (l .limits)) ls (and-left (everyLine (λ l. onlyApns (l .limits)) ls) (apnsAlone lss) e) j h
-levels-apns (ls ∷ lss) e (suc v) j h = levels-apns lss (and-right (everyLine (λ l. onlyApns (l .limits)) ls) (apnsAlone lss) e) v j h
+levels-apns (ls ∷ lss) e zero j h = every-line-at (λ l. only_apns l.limits) ls (and_left (every_line (λ l. only_apns l.limits) ls) (apns_alone lss) e) j h
+levels-apns (ls ∷ lss) e (suc v) j h = levels-apns lss (and_right (every_line (λ l. only_apns l.limits) ls) (apns_alone lss) e) v j h
 
-pub line-apns : (v j : ℕ) → j < length (listing book v) → onlyApns (getD (listing book v) j noLine .limits) ≡ true
+pub line-apns : (v j : ℕ) → j < length (listing book v) → only_apns (get_or (listing book v) j empty_line).limits ≡ true
 unfolding listing
-line-apns v j h = levels-apns (book .levels) apns-only v j h
+line-apns v j h = levels-apns book.levels apns-only v j h
 
-over-apns : (ls : List Limit) (xs : List ℕ) → onlyApns ls ≡ true → noLimits ls ≡ false → crowd xs ≡ exceeds ls (framesOf xs)
-unfolding exceeds framesOf crowd crowdFrom tally
-over-apns [] xs e f = let z : _≡_ {A = ℕ} 0 1 = cc in absurd (omega arith)
+over-apns : (ls : List Limit) (xs : List ℕ) → only_apns ls ≡ true → no_limits ls ≡ false → crowd xs ≡ exceeds ls (frames_of xs)
+unfolding exceeds frames_of crowd crowd_from tally
+over-apns [] xs e f = let z : ◌≡◌ {A = ℕ} 0 1 = cc in absurd (omega arith)
 over-apns (l ∷ []) xs e f =
-    let c = and-left (eqb (l .typ) apn && eqb (l .inst) 0) (eqb (l .most) mostApns) e in
-    let t : l .typ ≡ apn = eqb-true (l .typ) apn (and-left (eqb (l .typ) apn) (eqb (l .inst) 0) c) in
-    let i : l .inst ≡ 0 = eqb-true (l .inst) 0 (and-right (eqb (l .typ) apn) (eqb (l .inst) 0) c) in
-    let m : l .most ≡ mostApns = eqb-true (l .most) mostApns (and-right (eqb (l .typ) apn && eqb (l .inst) 0) (eqb (l .most) mostApns) e) in
-    rw (t, i, m) (go (filledBy (length xs) xs))
+    let c = and_left (eqb l.typ apn && eqb l.inst 0) (eqb l.most most_apns) e in
+    let t : l.typ ≡ apn = eqb-true l.typ apn (and_left (eqb l.typ apn) (eqb l.inst 0) c) in
+    let i : l.inst ≡ 0 = eqb-true l.inst 0 (and_right (eqb l.typ apn) (eqb l.inst 0) c) in
+    let m : l.most ≡ most_apns = eqb-true l.most most_apns (and_right (eqb l.typ apn && eqb l.inst 0) (eqb l.most most_apns) e) in
+    rw (t, i, m) (go (filled_by (length xs) xs))
   where
-    go : (z : Bool) → z && ltb mostApns (0 + tally apn 0 (framesBy (length xs) xs)) ≡ ltb mostApns (tally apn 0 (cond z (framesBy (length xs) xs) [])) || false
+    go : (z : Bool) → z && ltb most_apns (0 + tally apn 0 (frames_by (length xs) xs)) ≡ ltb most_apns (tally apn 0 (cond z (frames_by (length xs) xs) [])) || false
     go true = rw (zero-add, or-false)
     go false = refl
-over-apns (l ∷ (l′ ∷ ls)) xs e f = let z : _≡_ {A = ℕ} 0 1 = cc in absurd (omega arith)
+over-apns (l ∷ (l' ∷ ls)) xs e f = let z : ◌≡◌ {A = ℕ} 0 1 = cc in absurd (omega arith)
 
 -- what the code tests of a line and a value is whether the value holds more than the line lets stand
 pub over-is : (v j : ℕ) → j < length (listing book v) → (xs : List ℕ)
-    → not (isFree (getD (listing book v) j noLine)) && crowd xs ≡ exceeds (getD (listing book v) j noLine .limits) (framesOf xs)
-over-is v j h xs = go (isFree (getD (listing book v) j noLine)) refl
+    → not (is_free (get_or (listing book v) j empty_line)) && crowd xs ≡ exceeds (get_or (listing book v) j empty_line).limits (frames_of xs)
+over-is v j h xs = go (is_free (get_or (listing book v) j empty_line)) refl
   where
-    go : (c : Bool) → noLimits (getD (listing book v) j noLine .limits) ≡ c → not c && crowd xs ≡ exceeds (getD (listing book v) j noLine .limits) (framesOf xs)
-    go true e = sym (free-exceeds (getD (listing book v) j noLine .limits) (framesOf xs) e)
-    go false e = over-apns (getD (listing book v) j noLine .limits) xs (line-apns v j h) e
+    go : (c : Bool) → no_limits (get_or (listing book v) j empty_line).limits ≡ c → not c && crowd xs ≡ exceeds (get_or (listing book v) j empty_line).limits (frames_of xs)
+    go true e = sym (free-exceeds (get_or (listing book v) j empty_line).limits (frames_of xs) e)
+    go false e = over-apns (get_or (listing book v) j empty_line).limits xs (line-apns v j h) e

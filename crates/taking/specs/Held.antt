@@ -1,25 +1,20 @@
 -- What is made of the elements as they are taken: the counts, the first mandatory short element, what the levels lack, and the lent rows. Assumes nothing.
-use mathlib.Core.Path.{_≡_}
-use Prim.Native.Nat.{ℕ, _+_, _*_, _≤_, _<_}
-use mathlib.Core.Bool.{Bool, true, false, cond, not, _&&_}
-use mathlib.Core.List.{List}
-use lib.Dec.{eqb, leb}
-use lib.ListN.{length, drop, set}
-use Rattle·rules.specs.Sizes.{rowNumbers, largestMessage}
-use Rattle·rules.specs.Framing.{headOf}
-use Rattle·rules.specs.Listings.{anyInstance, book}
-use Rattle·rules.specs.Sound.{isFree}
-use Rattle·rules.specs.Frames.{Element}
-use Rattle·rules.specs.Standing.{Item, kept, valuePlace, lineIn, standing, itemOf, marked, entered}
-use Rattle·rules.specs.declared.Head.{Head}
-use Rattle·standings.specs.Faults.{firstFault, lesser}
-use Rattle·taking·specs.specs.Lent.{Lines}
-use Rattle·taking·specs.specs.Lacks.{fault}
-use Rattle·taking·specs.specs.declared.Counts.{Counts}
-use Rattle·taking·specs.specs.declared.Taken.{Taken}
+use Rattle.std.specs.Prelude.{◌≡◌, ℕ, ◌+◌, ◌*◌, ◌≤◌, ◌<◌, Bool, true, false, cond, not, ◌&&◌, List, eqb, leb, length, drop, set}
+use Rattle.rules.specs.Sizes.{row_numbers, largest_message}
+use Rattle.rules.specs.Framing.{head_of}
+use Rattle.rules.specs.Listings.{any_instance, book}
+use Rattle.rules.specs.Sound.{is_free}
+use Rattle.rules.specs.Frames.{Element}
+use Rattle.rules.specs.Standing.{Item, kept, value_place, line_in, standing, item_of, marked, entered}
+use Rattle.rules.specs.declared.Head.{Head}
+use Rattle.standings.specs.Faults.{first_fault, lesser}
+use Rattle.taking.specs.Lent.{Lines}
+use Rattle.taking.specs.Lacks.{fault}
+use Rattle.taking.specs.declared.Counts.{Counts}
+use Rattle.taking.specs.declared.Taken.{Taken}
 
-abbrev pub noCounts : Counts
-noCounts = record { rows = 0; kept = 0; short = 0; gap = 0 }
+abbrev pub no_counts : Counts
+no_counts = record { rows = 0; kept = 0; short = 0; gap = 0 }
 
 pub record Held : Type 0 where
   pub counts : Counts
@@ -29,72 +24,72 @@ abbrev pub held : Counts → List ℕ → Held
 held c rows = record { counts = c; rows = rows }
 
 -- the first mandatory element that is short stays
-unfoldable pub shortOf : ℕ → Bool → ℕ → ℕ → ℕ → ℕ → ℕ
-shortOf f must stand place t i = firstFault f must stand (fault place t i)
+unfoldable pub short_of : ℕ → Bool → ℕ → ℕ → ℕ → ℕ → ℕ
+short_of f must stand place t i = first_fault f must stand (fault place t i)
 
 unfoldable pub counted : Counts → ℕ → ℕ → Counts
-counted c stand f = record { rows = c .rows + 1; kept = cond (eqb stand kept) (c .kept + 1) (c .kept); short = f; gap = c .gap }
+counted c stand f = record { rows = c.rows + 1; kept = cond (eqb stand kept) (c.kept + 1) c.kept; short = f; gap = c.gap }
 
 unfoldable pub count : Counts → Item → Counts
-count c i = counted c (i .stand) (shortOf (c .short) (i .must) (i .stand) (i .place) (i .typ) (i .inst))
+count c i = counted c i.stand (short_of c.short i.must i.stand i.place i.typ i.inst)
 
 unfoldable pub closed : Counts → ℕ → Counts
-closed c l = record { rows = c .rows; kept = c .kept; short = c .short; gap = lesser (c .gap) l }
+closed c l = record { rows = c.rows; kept = c.kept; short = c.short; gap = lesser c.gap l }
 
 -- six numbers at row n, if there is room for it
-unfoldable pub putNumbers : List ℕ → ℕ → ℕ → ℕ → ℕ → ℕ → ℕ → ℕ → List ℕ
-putNumbers rows n a b c d e f =
-    cond (leb (rowNumbers * n + rowNumbers) (length rows))
-    (set (set (set (set (set (set rows (rowNumbers * n) a) (rowNumbers * n + 1) b) (rowNumbers * n + 2) c) (rowNumbers * n + 3) d) (rowNumbers * n + 4) e) (rowNumbers * n + 5) f)
+unfoldable pub put_numbers : List ℕ → ℕ → ℕ → ℕ → ℕ → ℕ → ℕ → ℕ → List ℕ
+put_numbers rows n a b c d e f =
+    cond (leb (row_numbers * n + row_numbers) (length rows))
+    (set (set (set (set (set (set rows (row_numbers * n) a) (row_numbers * n + 1) b) (row_numbers * n + 2) c) (row_numbers * n + 3) d) (row_numbers * n + 4) e) (row_numbers * n + 5) f)
     rows
 
-unfoldable pub putRow : List ℕ → ℕ → Item → List ℕ
-putRow rows n i = putNumbers rows n (i .parent) (i .typ) (i .inst) (valuePlace i) (i .len) (i .stand)
+unfoldable pub put_row : List ℕ → ℕ → Item → List ℕ
+put_row rows n i = put_numbers rows n i.parent i.typ i.inst (value_place i) i.len i.stand
 
 unfoldable pub one : Held → Item → Held
-one s i = held (count (s .counts) i) (putRow (s .rows) (s .counts .rows) i)
+one s i = held (count s.counts i) (put_row s.rows s.counts.rows i)
 
 -- ---- the parts of contracts
 
 -- kept rows are rows, and there are no more rows than octets before the place n
 pub record Few (c : Counts) (n : ℕ) : Type 0 where
-  pub kept : c .kept ≤ c .rows
-  pub rows : c .rows ≤ n
+  pub kept : c.kept ≤ c.rows
+  pub rows : c.rows ≤ n
 
 -- what the end of a level asks
 pub record Closes (k v : ℕ) (xs : List ℕ) (o : ℕ) : Type 0 where
   pub lent : Lines k v xs
-  pub home : o ≤ largestMessage
+  pub home : o ≤ largest_message
 
 -- the head r of the element at `at` of a part
 pub record Looked (part : List ℕ) (at : ℕ) (r : Head) : Type 0 where
-  pub is : r ≡ headOf (drop at part)
-  pub lies : r .whole ≡ true → at + 4 + r .len ≤ length part
-  pub inst : r .inst < anyInstance
+  pub is : r ≡ head_of (drop at part)
+  pub lies : r.whole ≡ true → at + 4 + r.len ≤ length part
+  pub inst : r.inst < any_instance
 
 -- the numbers of a row fit
 pub record RowFits (row place parent len : ℕ) : Type 0 where
-  pub number : row ≤ largestMessage
-  pub under : parent ≤ largestMessage
-  pub ends : place + 4 + len ≤ largestMessage
+  pub number : row ≤ largest_message
+  pub under : parent ≤ largest_message
+  pub ends : place + 4 + len ≤ largest_message
 
 -- what taking the element with head h at `at` asks: the lines xs of its level; n octets of its value are lent
 pub record Takes (k v : ℕ) (xs : List ℕ) (h : Head) (n at p : ℕ) (c : Counts) : Type 0 where
   pub lent : Lines k v xs
-  pub inst : h .inst < anyInstance
-  pub parent : p ≤ largestMessage
+  pub inst : h.inst < any_instance
+  pub parent : p ≤ largest_message
   pub few : Few c at
-  pub ends : at + 4 + h .len ≤ largestMessage
-  pub value : n ≤ largestMessage
+  pub ends : at + 4 + h.len ≤ largest_message
+  pub value : n ≤ largest_message
 
 -- an element that is kept has limits on what its inside holds
-abbrev pub hasLimits : ℕ → ℕ → List ℕ → Element → Bool
-hasLimits k v m h = eqb (standing book k v m h) kept && not (isFree (lineIn book k v h))
+abbrev pub has_limits : ℕ → ℕ → List ℕ → Element → Bool
+has_limits k v m h = eqb (standing book k v m h) kept && not (is_free (line_in book k v h))
 
 -- what taking the element h leaves: the marks, the lent rows and the counts, and the level to enter
-pub record Took (r : Taken) (m′ rows′ : List ℕ) (k v : ℕ) (m : List ℕ) (p at : ℕ) (h : Element) (s : Held) : Type 0 where
-  pub holds : held (r .counts) rows′ ≡ one s (itemOf book k v m p at h)
-  pub marks : m′ ≡ marked book k v m h
-  pub level : r .inner ≡ entered book k v m h
-  pub limits : r .limited ≡ hasLimits k v m h
-  pub few : Few (r .counts) (at + 4)
+pub record Took (r : Taken) (m' rows' : List ℕ) (k v : ℕ) (m : List ℕ) (p at : ℕ) (h : Element) (s : Held) : Type 0 where
+  pub holds : held r.counts rows' ≡ one s (item_of book k v m p at h)
+  pub marks : m' ≡ marked book k v m h
+  pub level : r.inner ≡ entered book k v m h
+  pub limits : r.limited ≡ has_limits k v m h
+  pub few : Few r.counts (at + 4)

@@ -1,23 +1,16 @@
 // One element: its head, its row, its marks, and what is counted of it.
-ghost use mathlib.Core.Path.{_≡_};
-ghost use Prim.Native.Nat.{_+_, _≤_, _<_};
-ghost use mathlib.Core.Bool.{true};
-ghost use mathlib.Core.List.{[]};
-ghost use lib.ListN.{length};
-ghost use Rattle·rules.specs.Framing.{noHead};
-ghost use Rattle·rules.specs.Frames.{element, framesOf};
-ghost use Rattle·rules.specs.Standing.{isShort};
-ghost use Rattle·taking·specs.specs.Lacks.{fault};
-ghost use Rattle·taking·specs.specs.Held.{held, shortOf, counted, putNumbers, Few, Looked, RowFits, Takes, Took};
-use crate::Counts;
-use crate::Taken;
-use crate::frames;
-use crate::line;
-use crate::wide;
+ghost use Rattle.std.specs.Prelude.{◌≡◌, ◌+◌, ◌≤◌, ◌<◌, true, [], length};
+ghost use Rattle.rules.specs.Framing.{no_head};
+ghost use Rattle.rules.specs.Frames.{element, frames_of};
+ghost use Rattle.rules.specs.Standing.{is_short};
+ghost use Rattle.taking.specs.Lacks.{fault};
+ghost use Rattle.taking.specs.Held.{held, short_of, counted, put_numbers, Few, Looked, RowFits, Takes, Took};
+
+use crate::{Counts, Taken, frames, line, wide};
 use rules::Head;
 
 fn no_head() -> Head
-    ensures { λ r. ⌜ r ≡ noHead ⌝ }
+    ensures { result ≡ no_head }
 {
     Head {
         whole: false,
@@ -30,8 +23,8 @@ fn no_head() -> Head
 
 // The element at `at`, if a whole one stands there.
 pub fn look(part: &[u8], at: usize) -> Head
-    requires { ⌜ at ≤ length (now part) ⌝ }
-    ensures { λ r. ⌜ Looked (now (part .entry)) at r ⌝ }
+    requires { at ≤ length part.now }
+    ensures { Looked part.now at result }
 {
     if part.len() - at < 4 {
         return no_head();
@@ -60,29 +53,29 @@ pub fn look(part: &[u8], at: usize) -> Head
 
 // Is the value below its least length?
 pub(crate) fn is_short(h: Head) -> bool
-    ensures { λ r. ⌜ r ≡ isShort (element h []) ⌝ }
+    ensures { result ≡ is_short (element h []) }
 {
     h.len < facts::least(h.typ, h.first)
 }
 
 // A place with a pair as one number, which grows with the place.
 pub(crate) fn fault_at(place: usize, typ: u8, inst: u8) -> usize
-    requires { ⌜ place ≤ 4096 ⌝ }
-    ensures { λ r. ⌜ r ≡ fault place typ inst ⌝ }
+    requires { place ≤ 4096 }
+    ensures { result ≡ fault place typ inst }
 {
     1 + place * 4096 + wide(typ) * 16 + wide(inst)
 }
 
 pub(crate) fn first_short(f: usize, must: bool, stand: u8, place: usize, typ: u8, inst: u8) -> usize
-    requires { ⌜ place ≤ 4096 ⌝ }
-    ensures { λ r. ⌜ r ≡ shortOf f must stand place typ inst ⌝ }
+    requires { place ≤ 4096 }
+    ensures { result ≡ short_of f must stand place typ inst }
 {
     standings::first_fault(f, must, stand, fault_at(place, typ, inst))
 }
 
 pub(crate) fn count_one(counts: Counts, stand: u8, short: usize) -> Counts
-    requires { ⌜ Few counts 4096 ⌝ }
-    ensures { λ r. ⌜ r ≡ counted counts stand short ⌝ }
+    requires { Few counts 4096 }
+    ensures { result ≡ counted counts stand short }
 {
     let rows = counts.rows + 1;
     if stand == 0 {
@@ -112,8 +105,8 @@ pub fn put_row(
     len: u16,
     stand: u16,
 )
-    requires { ⌜ row ≤ 4096 ⌝ }
-    ensures { λ _. ⌜ now (rows .exit) ≡ putNumbers (now (rows .entry)) row parent typ inst place len stand ⌝ }
+    requires { row ≤ 4096 }
+    ensures { rows.new ≡ put_numbers rows.old row parent typ inst place len stand }
 {
     let at = 6 * row;
     if at + 6 <= rows.len() {
@@ -135,8 +128,8 @@ pub(crate) fn write_row(
     parent: usize,
     stand: u8,
 )
-    requires { ⌜ RowFits row place parent (h .len) ⌝ }
-    ensures { λ _. ⌜ now (rows .exit) ≡ putNumbers (now (rows .entry)) row parent (h .typ) (h .inst) (place + 4) (h .len) stand ⌝ }
+    requires { RowFits row place parent h.len }
+    ensures { rows.new ≡ put_numbers rows.old row parent h.typ h.inst (place + 4) h.len stand }
 {
     let value = place + 4;
     let len = h.len;
@@ -166,9 +159,9 @@ pub fn take_one(
     rows: &mut [u16],
     counts: Counts,
 ) -> Taken
-    requires { ⌜ Takes kind level (now lines) h (length (now value)) place parent counts ⌝ }
-    ensures { λ r. ⌜ Took r (now (seen .exit)) (now (rows .exit)) kind level (now (seen .entry)) parent place
-        (element h (framesOf (now (value .entry)))) (held counts (now (rows .entry))) ⌝ }
+    requires { Takes kind level lines.now h (length value.now) place parent counts }
+    ensures { Took result seen.new rows.new kind level seen.old parent place
+        (element h (frames_of value.now)) (held counts rows.old) }
 {
     let typ = h.typ;
     let inst = h.inst;

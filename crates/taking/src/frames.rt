@@ -1,16 +1,13 @@
 // The elements directly inside a value, by their headers alone: does a group hold more APNs than it may?
-ghost use mathlib.Core.Path.{_≡_};
-ghost use Prim.Native.Nat.{_≤_};
-ghost use mathlib.Core.Bool.{_&&_};
-ghost use lib.ListN.{length};
-ghost use Rattle·listings.specs.Data.{limitedIn};
-ghost use Rattle·taking·specs.specs.Frames.{crowd, IsApn};
-use crate::element;
-use crate::line;
+ghost use Rattle.std.specs.Prelude.{◌≡◌, ◌≤◌, ◌&&◌, length};
+ghost use Rattle.listings.specs.Data.{limited_in};
+ghost use Rattle.taking.specs.Frames.{crowd, IsApn};
+
+use crate::{element, line};
 
 // 1 for an APN (71/0), else 0.
 pub fn apns(typ: u8, inst: u8) -> usize
-    ensures { λ r. ⌜ IsApn typ inst r ⌝ }
+    ensures { IsApn typ inst result }
 {
     if typ != 71 {
         return 0;
@@ -23,8 +20,8 @@ pub fn apns(typ: u8, inst: u8) -> usize
 
 // Do elements fill the value, and are more than ten of them APNs?
 pub(crate) fn crowded(value: &[u8]) -> bool
-    requires { ⌜ length (now value) ≤ 4096 ⌝ }
-    ensures { λ r. ⌜ r ≡ crowd (now (value .entry)) ⌝ }
+    requires { length value.now ≤ 4096 }
+    ensures { result ≡ crowd value.now }
 {
     let mut at = 0;
     let mut n = 0;
@@ -41,8 +38,8 @@ pub(crate) fn crowded(value: &[u8]) -> bool
 
 // Does the value hold more than its line lets stand?
 pub(crate) fn is_over(line: u32, value: &[u8]) -> bool
-    requires { ⌜ length (now value) ≤ 4096 ⌝ }
-    ensures { λ r. ⌜ r ≡ limitedIn line && crowd (now (value .entry)) ⌝ }
+    requires { length value.now ≤ 4096 }
+    ensures { result ≡ limited_in line && crowd value.now }
 {
     if !line::limited(line) {
         return false;

@@ -1,18 +1,15 @@
 // The end of a level: which of its mandatory pairs none was kept of.
-ghost use mathlib.Core.Path.{_≡_};
-ghost use mathlib.Core.Bool.{not, _&&_};
-ghost use lib.Dec.{eqb};
-ghost use Rattle·rules.specs.Listings.{book};
-ghost use Rattle·listings.specs.Data.{mustIn, onIn};
-ghost use Rattle·taking·specs.specs.Lacks.{lackOf};
-ghost use Rattle·taking·specs.specs.Held.{closed, Closes};
-use crate::Counts;
-use crate::element;
-use crate::line;
+ghost use Rattle.std.specs.Prelude.{◌≡◌, not, ◌&&◌, eqb};
+ghost use Rattle.rules.specs.Listings.{book};
+ghost use Rattle.listings.specs.Data.{must_in, on_of_entry};
+ghost use Rattle.taking.specs.Lacks.{lack_of};
+ghost use Rattle.taking.specs.Held.{closed, Closes};
+
+use crate::{Counts, element, line};
 
 // Is a line mandatory and listed on this kind, with none of its pair kept?
 pub(crate) fn line_lacks(kind: u32, line: u32, mark: u8) -> bool
-    ensures { λ r. ⌜ r ≡ mustIn line && onIn kind line && not (eqb mark 2) ⌝ }
+    ensures { result ≡ must_in line && on_of_entry kind line && not (eqb mark 2) }
 {
     if !line::must(line) {
         return false;
@@ -26,8 +23,8 @@ pub(crate) fn line_lacks(kind: u32, line: u32, mark: u8) -> bool
 // The first mandatory line of a level, in listing order, of which none was kept; `home` is the level's place. Lines between mandatory ones
 // are passed over.
 pub(crate) fn lacking(kind: u32, level: u8, lines: &[u32], seen: &[u8; 32], home: usize) -> usize
-    requires { ⌜ Closes kind level (now lines) home ⌝ }
-    ensures { λ r. ⌜ r ≡ lackOf book kind level (now (seen .entry)) home ⌝ }
+    requires { Closes kind level lines.now home }
+    ensures { result ≡ lack_of book kind level seen.now home }
 {
     let mut n = 0;
     while n < lines.len() {
@@ -49,8 +46,8 @@ pub fn close_level(
     home: usize,
     counts: Counts,
 ) -> Counts
-    requires { ⌜ Closes kind level (now lines) home ⌝ }
-    ensures { λ r. ⌜ r ≡ closed counts (lackOf book kind level (now (seen .entry)) home) ⌝ }
+    requires { Closes kind level lines.now home }
+    ensures { result ≡ closed counts (lack_of book kind level seen.now home) }
 {
     let gap = standings::lesser_of(counts.gap, lacking(kind, level, lines, seen, home));
     Counts {

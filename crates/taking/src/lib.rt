@@ -1,8 +1,8 @@
 // What one element does at its level, and what a level's end finds: the rules that the reading of a message follows below its header,
 // whatever way its octets come. These are no entry points: a function here may ask for what its callers show.
-ghost use mathlib.Core.Path.{_≡_};
-ghost use Rattle·taking·specs.specs.Lent.{Octet};
-ghost use Rattle·taking·specs.specs.Held.{noCounts};
+ghost use Rattle.std.specs.Prelude.{◌≡◌};
+ghost use Rattle.taking.specs.Lent.{Octet};
+ghost use Rattle.taking.specs.Held.{no_counts};
 
 pub mod element;
 pub mod frames;
@@ -11,6 +11,7 @@ pub mod line;
 
 // What is counted as elements are taken: rows, kept rows, the first mandatory short element and the first level that lacks a pair, each a
 // place with a pair as one number, or 0 for none.
+#[derive(Drop)]
 pub struct Counts {
     pub rows: usize,
     pub kept: usize,
@@ -19,6 +20,7 @@ pub struct Counts {
 }
 
 // The counts after an element, the level of its inside if it is kept and a group, else 0, and whether what that holds has limits.
+#[derive(Drop)]
 pub struct Taken {
     pub counts: Counts,
     pub inner: u8,
@@ -27,13 +29,13 @@ pub struct Taken {
 
 // An octet as a number to count with.
 pub fn wide(x: u8) -> usize
-    ensures { λ r. ⌜ Octet x r ⌝ }
+    ensures { Octet x result }
 {
     x as usize
 }
 
 pub fn no_counts() -> Counts
-    ensures { λ r. ⌜ r ≡ noCounts ⌝ }
+    ensures { result ≡ no_counts }
 {
     Counts {
         rows: 0,

@@ -1,22 +1,17 @@
 // What stands over the rows: title, the numbers of the header, the verdict, and the heads of the columns.
-ghost use mathlib.Core.Path.{_≡_};
-ghost use lib.Dec.{eqb};
-ghost use Prim.Native.Nat.{_/_, _%_};
-ghost use Rattle·rules.specs.Framing.{flagT};
-ghost use Rattle·wording.specs.Puts.{Puts};
-ghost use Rattle·titles·specs.specs.Titles.{topRun, sequenceText, headerLine, topLines, titleText};
-use phrases::HEADERS;
-use phrases::PAGES;
-use phrases::VERDICTS;
-use phrases::runs::narrow;
-use phrases::runs::number_at;
-use phrases::runs::octet_at;
+ghost use Rattle.std.specs.Prelude.{◌≡◌, eqb, ◌/◌, ◌%◌};
+ghost use Rattle.rules.specs.Framing.{flag_t};
+ghost use Rattle.wording.specs.Puts.{Puts};
+ghost use Rattle.titles.specs.Titles.{top_run, sequence_text, header_line, top_lines, title_text};
+
+use phrases::runs::{narrow, number_at, octet_at};
 use phrases::sentences::say;
+use phrases::{HEADERS, PAGES, VERDICTS};
 use rules::Verdict;
 
 // The numbers that are said.
 fn run(kind: u32, v: Verdict, table: &[u16], copy: &[u8]) -> [u16; 10]
-    ensures { λ r. ⌜ r ≡ topRun kind v (now (table .entry)) (now (copy .entry)) ⌝ }
+    ensures { result ≡ top_run kind v table.now copy.now }
 {
     [
         narrow(kind as usize),
@@ -33,21 +28,21 @@ fn run(kind: u32, v: Verdict, table: &[u16], copy: &[u8]) -> [u16; 10]
 }
 
 fn sequence(a: u8, b: u8, c: u8, at: usize, out: &mut [u8]) -> usize
-    ensures { λ r. ⌜ Puts (sequenceText a b c) at (now (out .entry)) r (now (out .exit)) ⌝ }
+    ensures { Puts (sequence_text a b c) at out.old result out.new }
 {
     let after = wording::hexes(&[a, b, c], at, out);
     wording::put(10, after, out)
 }
 
 fn has_teid(copy: &[u8]) -> bool
-    ensures { λ r. ⌜ r ≡ flagT (now (copy .entry)) ⌝ }
+    ensures { result ≡ flag_t copy.now }
 {
     octet_at(copy, 0) / 8 % 2 == 1
 }
 
 // TEID and sequence number, or the sequence number alone.
 fn header(names: &[u8], run: &[u16], copy: &[u8], at: usize, out: &mut [u8]) -> usize
-    ensures { λ r. ⌜ Puts (headerLine (now (names .entry)) (now (run .entry)) (now (copy .entry))) at (now (out .entry)) r (now (out .exit)) ⌝ }
+    ensures { Puts (header_line names.now run.now copy.now) at out.old result out.new }
 {
     let a = octet_at(copy, 4);
     let b = octet_at(copy, 5);
@@ -69,7 +64,7 @@ fn header(names: &[u8], run: &[u16], copy: &[u8], at: usize, out: &mut [u8]) -> 
 }
 
 fn lines(names: &[u8], run: &[u16], code: u16, copy: &[u8], at: usize, out: &mut [u8]) -> usize
-    ensures { λ r. ⌜ Puts (topLines (now (names .entry)) (now (run .entry)) code (now (copy .entry))) at (now (out .entry)) r (now (out .exit)) ⌝ }
+    ensures { Puts (top_lines names.now run.now code copy.now) at out.old result out.new }
 {
     let at1 = say(PAGES, 1, names, run, at, out);
     let at2 = header(names, run, copy, at1, out);
@@ -87,7 +82,7 @@ pub fn title(
     at: usize,
     out: &mut [u8],
 ) -> usize
-    ensures { λ r. ⌜ Puts (titleText (now (names .entry)) kind v (now (table .entry)) (now (copy .entry))) at (now (out .entry)) r (now (out .exit)) ⌝ }
+    ensures { Puts (title_text names.now kind v table.now copy.now) at out.old result out.new }
 {
     let numbers = run(kind, v, table, copy);
     lines(names, &numbers, v.code, copy, at, out)

@@ -1,10 +1,8 @@
 -- The elements' names by type number from 0, 32 octets each, as TS 29.274 Table 8.1-1 has them: by its abbreviation where a name is over
 -- 31 octets, and shortened where it has none. 201 has its number from the rules alone; 190 to 254 have none else. Assumes nothing.
-use Prim.Native.Nat.{ℕ, zero, suc, _-_}
+use Rattle.std.specs.Prelude.{ℕ, zero, suc, ◌-◌, List, [], ◌∷◌, ◌++◌, length, replicate}
 use Prim.Native.String.{String}
-use mathlib.Core.List.{List, [], _∷_, _++_}
-use lib.ListN.{length, replicate}
-use Rattle·phrases.specs.Words.{words}
+use Rattle.phrases.specs.Words.{words}
 
 -- a name, and for how many numbers on end it stands
 pub record Named : Type 0 where
@@ -25,7 +23,7 @@ often (suc n) e rest = e ++ often n e rest
 
 unfoldable pub entries : List Named → List ℕ
 entries [] = []
-entries (x ∷ more) = often (x .numbers) (entry (words (x .name))) (entries more)
+entries (x ∷ more) = often x.numbers (entry (words x.name)) (entries more)
 
 unfoldable pub table : List Named
 table =

@@ -1,5 +1,6 @@
 // The desk's page for programs in other languages, with the names of Table 8.1-1; and names alone.
-ghost use Rattle·wokdesk·specs.specs.Pages.{Paged, Called};
+ghost use Rattle.wokdesk.specs.Pages.{Paged, Called};
+
 use columns::View;
 use phrases::names::element;
 use phrases::sentences::message_name;
@@ -7,9 +8,9 @@ use phrases::sentences::message_name;
 mod names;
 
 // How many octets of the page are in the buffer. A viewer whose right is 1 sees subscribers, and one whose full is 1 values whole.
-#[no_mangle]
+#[unsafe(no_mangle)]
 pub extern "C" fn wok_show(kind: u32, right: u8, full: u8, message: &[u8], page: &mut [u8]) -> usize
-    ensures { λ r. ⌜ Paged kind right full (now (message .entry)) (now (page .entry)) r (now (page .exit)) ⌝ }
+    ensures { Paged kind right full message.now page.old result page.new }
 {
     let names = names::names();
     let view = View {
@@ -21,9 +22,9 @@ pub extern "C" fn wok_show(kind: u32, right: u8, full: u8, message: &[u8], page:
 }
 
 // How many octets of a name are in the buffer: of an element for 0, of a message for 1, and none for anything else.
-#[no_mangle]
+#[unsafe(no_mangle)]
 pub extern "C" fn wok_name(what: u8, number: u8, name: &mut [u8]) -> usize
-    ensures { λ r. ⌜ Called what number (now (name .entry)) r (now (name .exit)) ⌝ }
+    ensures { Called what number name.old result name.new }
 {
     if what == 0 {
         let names = names::names();

@@ -1,6 +1,6 @@
 // The names of specs/Names.antt as constant data, one a line.
-ghost use mathlib.Core.Path.{_≡_};
-ghost use Rattle·wokdesk·specs.specs.Names.{names};
+ghost use Rattle.std.specs.Prelude.{◌≡◌};
+ghost use Rattle.wokdesk.specs.Names.{names};
 
 const NAMES: [u8; 8192] = *b"\
     Reserved                        \
@@ -137,7 +137,7 @@ const NAMES: [u8; 8192] = *b"\
     Change Reporting Action         \
     FQ-CSID                         \
     Channel needed                  \
-    eMLPP Priority                  \
+    e_mlpp Priority                  \
     Node Type                       \
     FQDN                            \
     Transaction Identifier (TI)     \
@@ -263,7 +263,7 @@ const NAMES: [u8; 8192] = *b"\
 
 // Laid down here, so that no other proof has its octets before it.
 pub(crate) fn names() -> [u8; 8192]
-    ensures { λ r. ⌜ r ≡ names ⌝ }
+    ensures { result ≡ names }
 {
     NAMES
 }

@@ -1,19 +1,17 @@
 // The pieces form, exported to C: state and table go as octets, and the code is the result. It is a library of its own, so that the judge's stays as it is.
-ghost use mathlib.Core.Path.{_≡_};
-ghost use Prim.Native.Nat.{_-_, _≤_};
-ghost use lib.ListN.{length, replicate};
-ghost use Rattle·rules.specs.Octets.{numbersIn};
-ghost use Rattle·pieces.specs.Drafts.{blanks, standVoid, backTo};
-ghost use Rattle·pieces.specs.Coded.{rowIf};
-ghost use Rattle·pieces.specs.Contracts.{FitsAll, Rowed};
-ghost use Rattle·wokpieces·specs.specs.Exports.{rowStored, Holds, FedOctets, FedTable, Told, Takes, Ending, Finished, StartedOctets, PartedOctets, EndedOctets};
-use pieces::Pieces;
-use pieces::pace;
+ghost use Rattle.std.specs.Prelude.{◌≡◌, ◌-◌, ◌≤◌, length, replicate};
+ghost use Rattle.rules.specs.Octets.{numbers_in};
+ghost use Rattle.pieces.specs.Drafts.{blanks, stand_void, back_to};
+ghost use Rattle.pieces.specs.Coded.{row_if};
+ghost use Rattle.pieces.specs.Agreements.{FitsAll, Rowed};
+ghost use Rattle.wokpieces.specs.Exports.{row_stored, Holds, FedOctets, FedTable, Told, Takes, Ending, Finished, StartedOctets, PartedOctets, EndedOctets};
+
+use pieces::{Pieces, pace};
 use rules::Verdict;
 
 // Octets that are zero.
 fn clear(out: &mut [u8])
-    ensures { λ _. ⌜ now (out .exit) ≡ replicate (length (now (out .entry))) 0 ⌝ }
+    ensures { out.new ≡ replicate (length out.old) 0 }
 {
     let mut n = 0;
     while n < out.len() {
@@ -24,8 +22,8 @@ fn clear(out: &mut [u8])
 
 // A row's six numbers, if there is a row and room for it.
 fn put_row(rows: &mut [u8], wrote: bool, n: usize, row: &[u16])
-    requires { ⌜ Rowed n (now row) ⌝ }
-    ensures { λ _. ⌜ now (rows .exit) ≡ rowStored wrote (now (rows .entry)) n (now (row .entry)) ⌝ }
+    requires { Rowed n row.now }
+    ensures { rows.new ≡ row_stored wrote rows.old n row.now }
 {
     if !wrote {
         return;
@@ -44,8 +42,8 @@ fn put_row(rows: &mut [u8], wrote: bool, n: usize, row: &[u16])
 
 // Rows m to e, without the last, are zero again.
 fn blank(rows: &mut [u8], m: usize, e: usize)
-    requires { ⌜ e ≤ 4097 ⌝ }
-    ensures { λ _. ⌜ Holds (now (rows .entry)) (now (rows .exit)) (blanks (numbersIn (now (rows .entry))) m (e - m)) ⌝ }
+    requires { e ≤ 4097 }
+    ensures { Holds rows.old rows.new (blanks (numbers_in rows.old) m (e - m)) }
 {
     let none = [0u16; 6];
     let mut j = e;
@@ -57,8 +55,8 @@ fn blank(rows: &mut [u8], m: usize, e: usize)
 
 // Row number m, counted from 1, is that of a void group.
 fn stand_void(rows: &mut [u8], m: usize)
-    requires { ⌜ m ≤ 4097 ⌝ }
-    ensures { λ _. ⌜ Holds (now (rows .entry)) (now (rows .exit)) (standVoid (numbersIn (now (rows .entry))) m) ⌝ }
+    requires { m ≤ 4097 }
+    ensures { Holds rows.old rows.new (stand_void (numbers_in rows.old) m) }
 {
     if m == 0 {
         return;
@@ -72,8 +70,8 @@ fn stand_void(rows: &mut [u8], m: usize)
 
 // Where e rows were made and only m there are, the others go back, and the last that stays is void.
 fn take_back(rows: &mut [u8], m: usize, e: usize)
-    requires { ⌜ e ≤ 4097 ⌝ }
-    ensures { λ _. ⌜ Holds (now (rows .entry)) (now (rows .exit)) (backTo m e (numbersIn (now (rows .entry)))) ⌝ }
+    requires { e ≤ 4097 }
+    ensures { Holds rows.old rows.new (back_to m e (numbers_in rows.old)) }
 {
     if e <= m {
         return;
@@ -84,8 +82,8 @@ fn take_back(rows: &mut [u8], m: usize, e: usize)
 
 // A row, if there is one; then m rows there are.
 fn write_row(rows: &mut [u8], wrote: bool, n: usize, row: &[u16], m: usize)
-    requires { ⌜ Rowed n (now row) ⌝ }
-    ensures { λ _. ⌜ Holds (now (rows .entry)) (now (rows .exit)) (rowIf wrote (numbersIn (now (rows .entry))) n (now (row .entry)) m) ⌝ }
+    requires { Rowed n row.now }
+    ensures { Holds rows.old rows.new (row_if wrote (numbers_in rows.old) n row.now m) }
 {
     put_row(rows, wrote, n, row);
     if !wrote {
@@ -96,8 +94,8 @@ fn write_row(rows: &mut [u8], wrote: bool, n: usize, row: &[u16], m: usize)
 
 // The octets of a part.
 fn feed(p: Pieces, part: &[u8], rows: &mut [u8]) -> Pieces
-    requires { ⌜ FitsAll p ⌝ }
-    ensures { λ r. ⌜ FedOctets p (now (part .entry)) (now (rows .entry)) r (now (rows .exit)) ⌝ }
+    requires { FitsAll p }
+    ensures { FedOctets p part.now rows.old result rows.new }
 {
     let numbers = listings::numbers();
     let mut row = [0u16; 6];
@@ -115,8 +113,8 @@ fn feed(p: Pieces, part: &[u8], rows: &mut [u8]) -> Pieces
 
 // The same with a table: its rows stand after its header, if it has one.
 fn feed_table(p: Pieces, part: &[u8], table: &mut [u8]) -> Pieces
-    requires { ⌜ FitsAll p ⌝ }
-    ensures { λ r. ⌜ FedTable p (now (part .entry)) (now (table .entry)) r (now (table .exit)) ⌝ }
+    requires { FitsAll p }
+    ensures { FedTable p part.now table.old result table.new }
 {
     if table.len() < 12 {
         return feed(p, part, &mut table[..0]);
@@ -126,16 +124,16 @@ fn feed_table(p: Pieces, part: &[u8], table: &mut [u8]) -> Pieces
 
 // The five numbers of a verdict, and its code.
 fn told(v: Verdict, five: &mut [u8]) -> u16
-    ensures { λ r. ⌜ Told v (now (five .entry)) r (now (five .exit)) ⌝ }
+    ensures { Told v five.old result five.new }
 {
     octets::put_five(v, five);
     v.code
 }
 
 // A message begins: its table is zero. A state that is too short is 17, and nothing is written.
-#[no_mangle]
+#[unsafe(no_mangle)]
 pub extern "C" fn wok_start(kind: u32, state: &mut [u8], table: &mut [u8]) -> u16
-    ensures { λ r. ⌜ StartedOctets kind (now (state .entry)) (now (table .entry)) r (now (state .exit)) (now (table .exit)) ⌝ }
+    ensures { StartedOctets kind state.old table.old result state.new table.new }
 {
     if state.len() < keeping::SIZE {
         return 17;
@@ -148,7 +146,7 @@ pub extern "C" fn wok_start(kind: u32, state: &mut [u8], table: &mut [u8]) -> u1
 
 // May a part or an end be taken with this state and a table of so many numbers?
 fn taken(state: &[u8], room: usize) -> bool
-    ensures { λ r. ⌜ Takes (now (state .entry)) room r ⌝ }
+    ensures { Takes state.now room result }
 {
     if state.len() < keeping::SIZE {
         return false;
@@ -157,10 +155,10 @@ fn taken(state: &[u8], room: usize) -> bool
 }
 
 // The next octets of the message.
-#[no_mangle]
+#[unsafe(no_mangle)]
 pub extern "C" fn wok_part(state: &mut [u8], part: &[u8], table: &mut [u8], five: &mut [u8]) -> u16
-    ensures { λ r. ⌜ PartedOctets (now (state .entry)) (now (part .entry)) (now (table .entry)) (now (five .entry)) r
-        (now (state .exit)) (now (table .exit)) (now (five .exit)) ⌝ }
+    ensures { PartedOctets state.old part.now table.old five.old result
+        state.new table.new five.new }
 {
     let room = table.len() / 2;
     if !taken(state, room) {
@@ -174,8 +172,8 @@ pub extern "C" fn wok_part(state: &mut [u8], part: &[u8], table: &mut [u8], five
 
 // What the end leaves in a table: zeros, or its header over the rows.
 fn finish(p: Pieces, verdict: Verdict, table: &mut [u8])
-    requires { ⌜ Ending p verdict (now table) ⌝ }
-    ensures { λ _. ⌜ Finished p verdict (now (table .entry)) (now (table .exit)) ⌝ }
+    requires { Ending p verdict table.old }
+    ensures { Finished p verdict table.old table.new }
 {
     if verdict.code != 0 {
         clear(table);
@@ -194,10 +192,10 @@ fn finish(p: Pieces, verdict: Verdict, table: &mut [u8])
 }
 
 // The end of the message.
-#[no_mangle]
+#[unsafe(no_mangle)]
 pub extern "C" fn wok_end(state: &mut [u8], table: &mut [u8], five: &mut [u8]) -> u16
-    ensures { λ r. ⌜ EndedOctets (now (state .entry)) (now (table .entry)) (now (five .entry)) r
-        (now (state .exit)) (now (table .exit)) (now (five .exit)) ⌝ }
+    ensures { EndedOctets state.old table.old five.old result
+        state.new table.new five.new }
 {
     let room = table.len() / 2;
     if !taken(state, room) {

@@ -1,8 +1,8 @@
 // The exports to C: numbers go as octets, and the code is the result.
-ghost use Rattle·rules.specs.Answers.{CalledOctets, CleanedOctets, BuiltOctets, CountedOctets};
+ghost use Rattle.rules.specs.Answers.{CalledOctets, CleanedOctets, BuiltOctets, CountedOctets};
 
 // The verdict's code; its five numbers go to `five`, on acceptance the table to `table`, and the masked copy to `copy`, where 11 or 12 refuse, too.
-#[no_mangle]
+#[unsafe(no_mangle)]
 pub extern "C" fn wok_judge_copy(
     kind: u32,
     message: &[u8],
@@ -10,7 +10,7 @@ pub extern "C" fn wok_judge_copy(
     copy: &mut [u8],
     five: &mut [u8],
 ) -> u16
-    ensures { λ r. ⌜ CalledOctets kind (now (message .entry)) (now (table .entry)) (now (copy .entry)) (now (five .entry)) r (now (table .exit)) (now (copy .exit)) (now (five .exit)) ⌝ }
+    ensures { CalledOctets kind message.now table.old copy.old five.old result table.new copy.new five.new }
 {
     let verdict = calling::stored::judge_copy(kind, message, table, copy);
     octets::put_five(verdict, five);
@@ -18,9 +18,9 @@ pub extern "C" fn wok_judge_copy(
 }
 
 // The verdict's code; its five numbers and the length of the cleaned copy go to `answer`, and if nothing refuses the copy to `clean`.
-#[no_mangle]
+#[unsafe(no_mangle)]
 pub extern "C" fn wok_clean(kind: u32, message: &[u8], clean: &mut [u8], answer: &mut [u8]) -> u16
-    ensures { λ r. ⌜ CleanedOctets kind (now (message .entry)) (now (clean .entry)) (now (answer .entry)) r (now (clean .exit)) (now (answer .exit)) ⌝ }
+    ensures { CleanedOctets kind message.now clean.old answer.old result clean.new answer.new }
 {
     let s = cleaning::clean(kind, message, clean);
     let v = s.verdict;
@@ -31,7 +31,7 @@ pub extern "C" fn wok_clean(kind: u32, message: &[u8], clean: &mut [u8], answer:
 
 // The verdict's code; its five numbers and the length of the message go to `answer`, and if nothing refuses the message to `room`. The table is lent as
 // octets, two a number, and says kind and message type.
-#[no_mangle]
+#[unsafe(no_mangle)]
 pub extern "C" fn wok_build(
     teid: u32,
     sequence: u32,
@@ -40,7 +40,7 @@ pub extern "C" fn wok_build(
     room: &mut [u8],
     answer: &mut [u8],
 ) -> u16
-    ensures { λ r. ⌜ BuiltOctets teid sequence (now (table .entry)) (now (values .entry)) (now (room .entry)) (now (answer .entry)) r (now (room .exit)) (now (answer .exit)) ⌝ }
+    ensures { BuiltOctets teid sequence table.now values.now room.old answer.old result room.new answer.new }
 {
     let s = building::build_octets(teid, sequence, table, values, room);
     let v = s.verdict;
@@ -50,9 +50,9 @@ pub extern "C" fn wok_build(
 }
 
 // The verdict's code; its five numbers and the rows go to `answer`. Nothing is lent for rows: a table of 6 numbers and 6 for each of them is long enough.
-#[no_mangle]
+#[unsafe(no_mangle)]
 pub extern "C" fn wok_rows(kind: u32, message: &[u8], answer: &mut [u8]) -> u16
-    ensures { λ r. ⌜ CountedOctets kind (now (message .entry)) (now (answer .entry)) r (now (answer .exit)) ⌝ }
+    ensures { CountedOctets kind message.now answer.old result answer.new }
 {
     let c = counting::count(kind, message);
     let v = c.verdict;

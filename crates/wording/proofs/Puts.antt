@@ -1,65 +1,65 @@
 -- Text put after text is the two put at once; and what is put from the start stands there. Assumes nothing.
---     puts-append, then-puts   one text after another
+--     puts_append, then-puts   one text after another
 --     puts-start               from the start of a buffer: as much as fits, over what stood there
-use mathlib.Core.Path.{_≡_, refl, sym, ap, _∙_}
+use mathlib.Core.Path.{◌≡◌, refl, sym, ap, ◌∙◌}
 use mathlib.Core.Bool.{Bool, true, false, cond}
-use mathlib.Core.List.{List, [], _∷_, _++_}
-use Prim.Native.Nat.{ℕ, zero, suc, _+_, _≤_, _<_}
+use mathlib.Core.List.{List, [], ◌∷◌, ◌++◌}
+use Prim.Native.Nat.{ℕ, zero, suc, ◌+◌, ◌≤◌, ◌<◌}
 use native.Mathlib.Omega.{arith}
-use native.Mathlib.Numerals.{unary-clauses}
+use native.Mathlib.Numerals.{unary_clauses}
 use borrow.Author.Tests.{lt-ltb, le-ltb}
 use lib.Dec.{ltb}
-use lib.ListN.{length, take, drop, getD, set, length-append, length-set}
-use Rattle·rules.specs.Table.{laid}
-use Rattle·wording·specs.specs.Puts.{Paper, putOne, puts, Puts}
+use lib.ListN.{length, take, drop, get_or, set, length-append, length-set}
+use Rattle.rules.specs.Table.{laid}
+use Rattle.wording.specs.Puts.{Paper, put_one, puts, Puts}
 
-pub puts-append : (a c : List ℕ) (p : Paper) → puts (a ++ c) p ≡ puts c (puts a p)
+pub puts_append : (a c : List ℕ) (p : Paper) → puts (a ++ c) p ≡ puts c (puts a p)
 unfolding puts
-puts-append [] c p = refl
-puts-append (x ∷ a) c p = puts-append a c (putOne x p)
+puts_append [] c p = refl
+puts_append (x ∷ a) c p = puts_append a c (put_one x p)
 
 pub then-puts : {a c : List ℕ} {at₀ at₁ at₂ : ℕ} {out₀ out₁ out₂ : List ℕ} → Puts a at₀ out₀ at₁ out₁ → Puts c at₁ out₁ at₂ out₂ → Puts (a ++ c) at₀ out₀ at₂ out₂
-then-puts {a} {c} {at₀} {out₀ = out₀} p q = record { done = puts-append a c (record { at = at₀; out = out₀ }) ∙ ap (puts c) (p .done) ∙ q .done }
+then-puts {a} {c} {at₀} {out₀ = out₀} p q = record { done = puts_append a c (record { at = at₀; out = out₀ }) ∙ ap (puts c) p.done ∙ q.done }
 
 -- no octet is put past the buffer
-pub puts-length : (t : List ℕ) (p : Paper) → length (puts t p .out) ≡ length (p .out)
-unfolding puts putOne
+pub puts-length : (t : List ℕ) (p : Paper) → length (puts t p).out ≡ length p.out
+unfolding puts put_one
 puts-length [] p = refl
-puts-length (x ∷ t) p = puts-length t (putOne x p) ∙ go (ltb (p .at) (length (p .out)))
+puts-length (x ∷ t) p = puts-length t (put_one x p) ∙ go (ltb p.at (length p.out))
   where
-    go : (f : Bool) → length (cond f (record { at = p .at + 1; out = set (p .out) (p .at) x }) p .out) ≡ length (p .out)
-    go true = length-set (p .out) (p .at) x
+    go : (f : Bool) → length (cond f (record { at = p.at + 1; out = set p.out p.at x }) p).out ≡ length p.out
+    go true = length-set p.out p.at x
     go false = refl
 
 pub same-room : {t : List ℕ} {at₀ at₁ : ℕ} {out₀ out₁ : List ℕ} → Puts t at₀ out₀ at₁ out₁ → length out₁ ≡ length out₀
-same-room {t} {at₀} {out₀ = out₀} p = sym (ap (λ (q : Paper). length (q .out)) (p .done)) ∙ puts-length t (record { at = at₀; out = out₀ })
+same-room {t} {at₀} {out₀ = out₀} p = sym (ap (λ (q : Paper). length q.out) p.done) ∙ puts-length t (record { at = at₀; out = out₀ })
 
-pub puts-none : (at₀ : ℕ) (out₀ : List ℕ) → Puts [] at₀ out₀ at₀ out₀
+pub puts_none : (at₀ : ℕ) (out₀ : List ℕ) → Puts [] at₀ out₀ at₀ out₀
 unfolding puts
-puts-none at₀ out₀ = record { done = refl }
+puts_none at₀ out₀ = record { done = refl }
 
-pub puts-one : (x at₀ : ℕ) (out₀ : List ℕ) → at₀ < length out₀ → Puts (x ∷ []) at₀ out₀ (at₀ + 1) (set out₀ at₀ x)
-unfolding puts putOne
-puts-one x at₀ out₀ l = record { done = rw (lt-ltb at₀ (length out₀) l) }
+pub puts_one : (x at₀ : ℕ) (out₀ : List ℕ) → at₀ < length out₀ → Puts (x ∷ []) at₀ out₀ (at₀ + 1) (set out₀ at₀ x)
+unfolding puts put_one
+puts_one x at₀ out₀ l = record { done = rw (lt-ltb at₀ (length out₀) l) }
 
 pub puts-full : (x at₀ : ℕ) (out₀ : List ℕ) → length out₀ ≤ at₀ → Puts (x ∷ []) at₀ out₀ at₀ out₀
-unfolding puts putOne
+unfolding puts put_one
 puts-full x at₀ out₀ l = record { done = rw (le-ltb at₀ (length out₀) l) }
 
 -- from place `length pre` of pre ++ post on
 
-set-at : (pre post : List ℕ) (o x : ℕ) → set (pre ++ (o ∷ post)) (length pre) x ≡ pre ++ (x ∷ post)
-set-at [] post o x = refl
-set-at (p ∷ pre) post o x = ap (p ∷_) (set-at pre post o x)
+set_at : (pre post : List ℕ) (o x : ℕ) → set (pre ++ (o ∷ post)) (length pre) x ≡ pre ++ (x ∷ post)
+set_at [] post o x = refl
+set_at (p ∷ pre) post o x = ap (p ∷◌) (set_at pre post o x)
 
 full-stays : (t : List ℕ) (at₀ : ℕ) (out₀ : List ℕ) → length out₀ ≤ at₀ → Puts t at₀ out₀ at₀ out₀
-unfolding puts putOne
+unfolding puts put_one
 full-stays [] at₀ out₀ l = record { done = refl }
 full-stays (x ∷ t) at₀ out₀ l = then-puts (puts-full x at₀ out₀ l) (full-stays t at₀ out₀ l)
 
 snoc : (pre post : List ℕ) (x : ℕ) → (pre ++ (x ∷ [])) ++ post ≡ pre ++ (x ∷ post)
 snoc [] post x = refl
-snoc (p ∷ pre) post x = ap (p ∷_) (snoc pre post x)
+snoc (p ∷ pre) post x = ap (p ∷◌) (snoc pre post x)
 
 paper : {at₀ at₁ : ℕ} {out₀ out₁ : List ℕ} → at₀ ≡ at₁ → out₀ ≡ out₁ → Path Paper (record { at = at₀; out = out₀ }) (record { at = at₁; out = out₁ })
 paper e f = rw (e, f)
@@ -69,22 +69,22 @@ unfolding puts laid
 puts-from [] pre [] = record { done = paper (omega arith) refl }
 puts-from [] pre (o ∷ post) = record { done = paper (omega arith) refl }
 puts-from (x ∷ t) pre [] =
-    record { done = full-stays (x ∷ t) (length pre) (pre ++ []) (omega (arith, length-append pre [])) .done ∙ paper (omega arith) refl }
+    record { done = (full-stays (x ∷ t) (length pre) (pre ++ []) (omega (arith, length-append pre []))).done ∙ paper (omega arith) refl }
 puts-from (x ∷ t) pre (o ∷ post) =
     let n = length-append pre (x ∷ []) in record {
       done =
-          ap (puts t) (puts-one x (length pre) (pre ++ (o ∷ post)) (omega (arith, length-append pre (o ∷ post))) .done)
-          ∙ ap (puts t) (paper (omega (arith, n)) (set-at pre post o x ∙ sym (snoc pre post x)))
-          ∙ puts-from t (pre ++ (x ∷ [])) post .done
+          ap (puts t) (puts_one x (length pre) (pre ++ (o ∷ post)) (omega (arith, length-append pre (o ∷ post)))).done
+          ∙ ap (puts t) (paper (omega (arith, n)) (set_at pre post o x ∙ sym (snoc pre post x)))
+          ∙ (puts-from t (pre ++ (x ∷ [])) post).done
           ∙ paper (omega (arith, n)) (snoc pre (laid (take (length post) t) post) x);
     }
 
 pub puts-start : (t out₀ : List ℕ) → Puts t 0 out₀ (length (take (length out₀) t)) (laid (take (length out₀) t) out₀)
-puts-start t out₀ = record { done = puts-from t [] out₀ .done ∙ paper (omega arith) refl }
+puts-start t out₀ = record { done = (puts-from t [] out₀).done ∙ paper (omega arith) refl }
 
 -- what is put is determined
 pub puts-same : {t : List ℕ} {at₀ at₁ at₂ : ℕ} {out₀ out₁ out₂ : List ℕ} → Puts t at₀ out₀ at₁ out₁ → Puts t at₀ out₀ at₂ out₂ → (at₁ ≡ at₂) × (out₁ ≡ out₂)
-puts-same p q = (ap (λ (x : Paper). x .at) (sym (p .done) ∙ q .done), ap (λ (x : Paper). x .out) (sym (p .done) ∙ q .done))
+puts-same p q = (ap (λ (x : Paper). x.at) (sym p.done ∙ q.done), ap (λ (x : Paper). x.out) (sym p.done ∙ q.done))
 
 -- ---- the loop of `copy`
 
@@ -92,30 +92,30 @@ pub record Copying (text : List ℕ) (at₀ : ℕ) (out₀ : List ℕ) (to : ℕ
   pub left : puts (drop n text) (record { at = to; out = out }) ≡ puts text (record { at = at₀; out = out₀ })
   pub within : n ≤ length text
 
-drop-next : (text : List ℕ) (n : ℕ) → n < length text → drop n text ≡ getD text n 0 ∷ drop (n + 1) text
+drop-next : (text : List ℕ) (n : ℕ) → n < length text → drop n text ≡ get_or text n 0 ∷ drop (n + 1) text
 drop-next [] n l = absurd (omega arith)
 drop-next (x ∷ text) zero l = refl
-drop-next (x ∷ text) (suc n) l = simp unary-clauses (simp unary-clauses at (drop-next text n (omega arith)))
+drop-next (x ∷ text) (suc n) l = simp unary_clauses (simp unary_clauses at (drop-next text n (omega arith)))
 
-drop-all : (text : List ℕ) (n : ℕ) → length text ≤ n → drop n text ≡ []
-drop-all [] zero l = refl
-drop-all [] (suc n) l = refl
-drop-all (x ∷ text) zero l = absurd (omega arith)
-drop-all (x ∷ text) (suc n) l = drop-all text n (omega arith)
+drop_all : (text : List ℕ) (n : ℕ) → length text ≤ n → drop n text ≡ []
+drop_all [] zero l = refl
+drop_all [] (suc n) l = refl
+drop_all (x ∷ text) zero l = absurd (omega arith)
+drop_all (x ∷ text) (suc n) l = drop_all text n (omega arith)
 
-pub copy-start : (text : List ℕ) (at₀ : ℕ) (out₀ : List ℕ) → Copying text at₀ out₀ at₀ out₀ 0
-copy-start text at₀ out₀ = record { left = refl; within = omega arith }
+pub copy_start : (text : List ℕ) (at₀ : ℕ) (out₀ : List ℕ) → Copying text at₀ out₀ at₀ out₀ 0
+copy_start text at₀ out₀ = record { left = refl; within = omega arith }
 
-pub copy-next : {text : List ℕ} {at₀ to n to′ : ℕ} {out₀ out out′ : List ℕ} → Copying text at₀ out₀ to out n → n < length text → Puts (getD text n 0 ∷ []) to out to′ out′ → Copying text at₀ out₀ to′ out′ (n + 1)
+pub copy-next : {text : List ℕ} {at₀ to n to' : ℕ} {out₀ out out' : List ℕ} → Copying text at₀ out₀ to out n → n < length text → Puts (get_or text n 0 ∷ []) to out to' out' → Copying text at₀ out₀ to' out' (n + 1)
 copy-next {text} {to = to} {n = n} {out = out} i l p = record {
   left =
-      sym (ap (puts (drop (n + 1) text)) (p .done))
-      ∙ sym (puts-append (getD text n 0 ∷ []) (drop (n + 1) text) (record { at = to; out = out }))
+      sym (ap (puts (drop (n + 1) text)) p.done)
+      ∙ sym (puts_append (get_or text n 0 ∷ []) (drop (n + 1) text) (record { at = to; out = out }))
       ∙ ap (λ t. puts t (record { at = to; out = out })) (sym (drop-next text n l))
-      ∙ i .left;
+      ∙ i.left;
   within = omega arith;
 }
 
 pub copy-end : {text : List ℕ} {at₀ to n : ℕ} {out₀ out : List ℕ} → Copying text at₀ out₀ to out n → length text ≤ n → Puts text at₀ out₀ to out
 unfolding puts
-copy-end {text} {to = to} {n = n} {out = out} i l = record { done = sym (i .left) ∙ ap (λ t. puts t (record { at = to; out = out })) (drop-all text n l) }
+copy-end {text} {to = to} {n = n} {out = out} i l = record { done = sym i.left ∙ ap (λ t. puts t (record { at = to; out = out })) (drop_all text n l) }

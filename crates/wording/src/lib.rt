@@ -1,15 +1,12 @@
 // Text into a lent buffer, octet by octet, as far as the buffer reaches.
-ghost use mathlib.Core.Path.{_≡_};
-ghost use mathlib.Core.List.{[], _∷_};
-ghost use Prim.Native.Nat.{_+_, _%_, _≤_, _<_};
-ghost use lib.ListN.{length};
-ghost use Rattle·rules.specs.Program.{digitAt, decimal};
-ghost use Rattle·wording·specs.specs.Puts.{Puts};
-ghost use Rattle·wording·specs.specs.Pieces.{gap, leftIn, rightIn, hexDigit, hex, hexes};
+ghost use Rattle.std.specs.Prelude.{◌≡◌, [], ◌∷◌, ◌+◌, ◌%◌, ◌≤◌, ◌<◌, length};
+ghost use Rattle.rules.specs.Program.{digit_at, decimal};
+ghost use Rattle.wording.specs.Puts.{Puts};
+ghost use Rattle.wording.specs.Pieces.{gap, left_of_room, right_in, hex_digit, hex, hexes};
 
 // One octet at `at`; answers where the next one goes.
 pub fn put(octet: u8, at: usize, out: &mut [u8]) -> usize
-    ensures { λ r. ⌜ Puts (octet ∷ []) at (now (out .entry)) r (now (out .exit)) ⌝ }
+    ensures { Puts (octet ∷ []) at out.old result out.new }
 {
     if at < out.len() {
         out[at] = octet;
@@ -20,15 +17,15 @@ pub fn put(octet: u8, at: usize, out: &mut [u8]) -> usize
 
 // The last digit of a number.
 fn figure(n: u16) -> u8
-    ensures { λ r. ⌜ r ≡ 48 + n % 10 ⌝ }
+    ensures { result ≡ 48 + n % 10 }
 {
     (48 + n % 10) as u8
 }
 
 // The digit at a power of ten, if the number reaches it.
 fn digit(n: u16, power: u16, at: usize, out: &mut [u8]) -> usize
-    requires { ⌜ 1 ≤ power ⌝ }
-    ensures { λ r. ⌜ Puts (digitAt n power) at (now (out .entry)) r (now (out .exit)) ⌝ }
+    requires { 1 ≤ power }
+    ensures { Puts (digit_at n power) at out.old result out.new }
 {
     if n < power {
         return at;
@@ -38,7 +35,7 @@ fn digit(n: u16, power: u16, at: usize, out: &mut [u8]) -> usize
 
 // A number in decimal.
 pub fn number(n: u16, at: usize, out: &mut [u8]) -> usize
-    ensures { λ r. ⌜ Puts (decimal n) at (now (out .entry)) r (now (out .exit)) ⌝ }
+    ensures { Puts (decimal n) at out.old result out.new }
 {
     let at1 = digit(n, 10000, at, out);
     let at2 = digit(n, 1000, at1, out);
@@ -49,7 +46,7 @@ pub fn number(n: u16, at: usize, out: &mut [u8]) -> usize
 
 // A blank and a number.
 pub fn next_number(n: u16, at: usize, out: &mut [u8]) -> usize
-    ensures { λ r. ⌜ Puts (32 ∷ decimal n) at (now (out .entry)) r (now (out .exit)) ⌝ }
+    ensures { Puts (32 ∷ decimal n) at out.old result out.new }
 {
     let after = put(32, at, out);
     number(n, after, out)
@@ -57,7 +54,7 @@ pub fn next_number(n: u16, at: usize, out: &mut [u8]) -> usize
 
 // The octets of `text`.
 pub fn copy(text: &[u8], at: usize, out: &mut [u8]) -> usize
-    ensures { λ r. ⌜ Puts (now (text .entry)) at (now (out .entry)) r (now (out .exit)) ⌝ }
+    ensures { Puts text.now at out.old result out.new }
 {
     let mut to = at;
     let mut n = 0;
@@ -70,7 +67,7 @@ pub fn copy(text: &[u8], at: usize, out: &mut [u8]) -> usize
 
 // The blanks that fill a column beside so many octets.
 pub fn gap(width: usize, taken: usize, at: usize, out: &mut [u8]) -> usize
-    ensures { λ r. ⌜ Puts (gap width taken) at (now (out .entry)) r (now (out .exit)) ⌝ }
+    ensures { Puts (gap width taken) at out.old result out.new }
 {
     let mut to = at;
     let mut n = taken;
@@ -83,7 +80,7 @@ pub fn gap(width: usize, taken: usize, at: usize, out: &mut [u8]) -> usize
 
 // Words at the left of a column.
 pub fn left(text: &[u8], width: usize, at: usize, out: &mut [u8]) -> usize
-    ensures { λ r. ⌜ Puts (leftIn width (now (text .entry))) at (now (out .entry)) r (now (out .exit)) ⌝ }
+    ensures { Puts (left_of_room width text.now) at out.old result out.new }
 {
     let after = copy(text, at, out);
     gap(width, text.len(), after, out)
@@ -91,7 +88,7 @@ pub fn left(text: &[u8], width: usize, at: usize, out: &mut [u8]) -> usize
 
 // How many digits a number has.
 fn digits(n: u16) -> usize
-    ensures { λ r. ⌜ r ≡ length (decimal n) ⌝ }
+    ensures { result ≡ length (decimal n) }
 {
     if n < 10 {
         return 1;
@@ -110,15 +107,15 @@ fn digits(n: u16) -> usize
 
 // A number at the right of a column.
 pub fn right(n: u16, width: usize, at: usize, out: &mut [u8]) -> usize
-    ensures { λ r. ⌜ Puts (rightIn width (decimal n)) at (now (out .entry)) r (now (out .exit)) ⌝ }
+    ensures { Puts (right_in width (decimal n)) at out.old result out.new }
 {
     let after = gap(width, digits(n), at, out);
     number(n, after, out)
 }
 
 fn hex_digit(x: u8) -> u8
-    requires { ⌜ x < 16 ⌝ }
-    ensures { λ r. ⌜ r ≡ hexDigit x ⌝ }
+    requires { x < 16 }
+    ensures { result ≡ hex_digit x }
 {
     if x < 10 {
         return 48 + x;
@@ -128,7 +125,7 @@ fn hex_digit(x: u8) -> u8
 
 // An octet in hex.
 pub fn hex(octet: u8, at: usize, out: &mut [u8]) -> usize
-    ensures { λ r. ⌜ Puts (hex octet) at (now (out .entry)) r (now (out .exit)) ⌝ }
+    ensures { Puts (hex octet) at out.old result out.new }
 {
     let high = hex_digit(octet / 16);
     let low = hex_digit(octet % 16);
@@ -138,7 +135,7 @@ pub fn hex(octet: u8, at: usize, out: &mut [u8]) -> usize
 
 // The octets of `part` in hex.
 pub fn hexes(part: &[u8], at: usize, out: &mut [u8]) -> usize
-    ensures { λ r. ⌜ Puts (hexes (now (part .entry))) at (now (out .entry)) r (now (out .exit)) ⌝ }
+    ensures { Puts (hexes part.now) at out.old result out.new }
 {
     let mut to = at;
     let mut n = 0;

@@ -1,7 +1,7 @@
 -- `refuse_at` is the five numbers that it is given. Assumes nothing.
 use mathlib.Core.Path.{refl}
-use Rattle·answers·proofs.proofs.refuse_at.Statement.{statement}
-use Rattle·answers·proofs.proofs.refuse_at.Tie as tie
+use Rattle.answers.proofs.refuse_at.Statement.{statement}
+use Rattle.answers.proofs.refuse_at.Tie as tie
 
 returns : tie.Need-returns
 returns c = refl

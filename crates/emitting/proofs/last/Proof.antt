@@ -1,56 +1,56 @@
 -- `last` reads the octet before the value, or the instance. Assumes nothing.
 use native.Mathlib.Omega.{arith}
-use borrow.Author.Needs.{needs}
-use Rattle·emitting·proofs.proofs.last.Statement.{statement}
-use Rattle·emitting·proofs.proofs.last.Tie as tie
-use Rattle·emitting·proofs.proofs.wide.Reads as wide-reads
+use borrow.Author.Rules.{rules}
+use Rattle.emitting.proofs.last.Statement.{statement}
+use Rattle.emitting.proofs.last.Tie as tie
+use Rattle.emitting.proofs.wide.Reads as wide-reads
 
-mul-at : tie.Need-mul-at
-mul-at c = search needs
+mul_at : tie.Need-overflow-mul-at
+mul_at c = search rules
 
-add-wide : tie.Need-add-wide
-add-wide c = search needs
+add_wide : tie.Need-overflow-add-wide
+add_wide c = search rules
 
-mul-wide : tie.Need-mul-wide
-mul-wide c = search needs
+mul_wide : tie.Need-overflow-mul-wide
+mul_wide c = search rules
 
 shared-slice-read-wide : tie.Need-shared-slice-read-wide
-shared-slice-read-wide c = search needs
+shared-slice-read-wide c = search rules
 
 wide-requires : tie.Need-wide-requires
-wide-requires c κs = search needs
+wide-requires c κs = search rules
 
-sub-result : tie.Need-sub-result
-sub-result c = omega (arith, c .before .before .before .before .before .pre .least (c .before .before .if1 .taken), c .wide .ensures .is)
+sub-result : tie.Need-overflow-sub-result
+sub-result c = omega (arith, c.before.before.before.before.before.requires.least c.before.before.if1.true, c.wide.ensures.is)
 
 shared-slice-read-result : tie.Need-shared-slice-read-result
-shared-slice-read-result c = omega (arith, c .before .before .before .before .before .before .pre .least (c .before .before .before .if1 .taken), c .before .before .before .before .before .before .pre .most (c .before .before .before .if1 .taken), c .before .wide .ensures .is)
+shared-slice-read-result c = omega (arith, c.before.before.before.before.before.before.requires.least c.before.before.before.if1.true, c.before.before.before.before.before.before.requires.most c.before.before.before.if1.true, c.before.wide.ensures.is)
 
 returns : tie.Need-returns
-returns c = rw (c .before .before .before .if1 .taken, c .before .wide .ensures .is)
+returns c = rw (c.before.before.before.if1.true, c.before.wide.ensures.is)
 
-add-result : tie.Need-add-result
-add-result c = search needs
+add-result : tie.Need-overflow-add-result
+add-result c = search rules
 
-mul-result : tie.Need-mul-result
-mul-result c = search needs
+mul-result : tie.Need-overflow-mul-result
+mul-result c = search rules
 
 shared-slice-read-result-2 : tie.Need-shared-slice-read-result-2
-shared-slice-read-result-2 c = search needs
+shared-slice-read-result-2 c = search rules
 
-cast-result : tie.Need-cast-result
-cast-result c = search needs
+cast-result : tie.Need-overflow-cast-result
+cast-result c = search rules
 
 returns-2 : tie.Need-returns-2
-returns-2 c = rw (c .before .if1 .left)
+returns-2 c = rw c.before.if1.false
 
 pub last-spec : {M : Type 1} → statement M
 last-spec =
     tie.close
     (tie.spec
-    mul-at
-    add-wide
-    mul-wide
+    mul_at
+    add_wide
+    mul_wide
     shared-slice-read-wide
     wide-requires
     sub-result

@@ -1,47 +1,47 @@
 -- `put_header` stores four octets. Assumes nothing.
-use Prim.Native.Nat.{_/_, _%_}
+use Prim.Native.Nat.{◌/◌, ◌%◌}
 use native.Mathlib.Omega.{arith}
 use lib.ListN.{length-set}
-use Rattle·emitting·proofs.proofs.Puts.{four-set}
-use borrow.Author.Needs.{needs}
-use Rattle·emitting·proofs.proofs.put_header.Statement.{statement}
-use Rattle·emitting·proofs.proofs.put_header.Tie as tie
+use Rattle.emitting.proofs.Puts.{four-set}
+use borrow.Author.Rules.{rules}
+use Rattle.emitting.proofs.put_header.Statement.{statement}
+use Rattle.emitting.proofs.put_header.Tie as tie
 
-cast-out : tie.Need-cast-out
-cast-out c = search needs
+cast-out : tie.Need-overflow-cast-out
+cast-out c = search rules
 
 slice-write-out : tie.Need-slice-write-out
-slice-write-out c = search needs
+slice-write-out c = search rules
 
-cast-out-2 : tie.Need-cast-out-2
-cast-out-2 c = search needs
+cast-out-2 : tie.Need-overflow-cast-out-2
+cast-out-2 c = search rules
 
-add-out : tie.Need-add-out
-add-out c = search needs
+add-out : tie.Need-overflow-add-out
+add-out c = search rules
 
 slice-write-out-2 : tie.Need-slice-write-out-2
 slice-write-out-2 c = simp length-set (omega arith)
 
-cast-out-3 : tie.Need-cast-out-3
-cast-out-3 c = search needs
+cast-out-3 : tie.Need-overflow-cast-out-3
+cast-out-3 c = search rules
 
-add-out-2 : tie.Need-add-out-2
-add-out-2 c = search needs
+add-out-2 : tie.Need-overflow-add-out-2
+add-out-2 c = search rules
 
 slice-write-out-3 : tie.Need-slice-write-out-3
 slice-write-out-3 c = simp length-set (omega arith)
 
-add-out-3 : tie.Need-add-out-3
-add-out-3 c = search needs
+add-out-3 : tie.Need-overflow-add-out-3
+add-out-3 c = search rules
 
 slice-write-out-4 : tie.Need-slice-write-out-4
 slice-write-out-4 c = simp length-set (omega arith)
 
-same-length : tie.Need-same-length
-same-length c = search needs
+same_length : tie.Need-same-length
+same_length c = search rules
 
 returns : tie.Need-returns
-returns c = four-set (c .args .out .now) (c .args .at) (c .args .typ) (c .args .len / 256) (c .args .len % 256) (c .args .end) (c .pre .room)
+returns c = four-set c.args.out.now c.args.at c.args.typ (c.args.len / 256) (c.args.len % 256) c.args.end c.requires.room
 
 pub put-header-spec : {M : Type 1} → statement M
 put-header-spec =
@@ -57,5 +57,5 @@ put-header-spec =
     slice-write-out-3
     add-out-3
     slice-write-out-4
-    same-length
+    same_length
     returns)

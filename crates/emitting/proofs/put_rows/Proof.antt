@@ -1,56 +1,56 @@
 -- `put_rows` goes by the rows that are laid so far. Assumes nothing.
-use Prim.Native.Nat.{_-_}
+use Prim.Native.Nat.{◌-◌}
 use native.Mathlib.Omega.{arith}
-use Rattle·emitting·proofs.proofs.Overs.{Putting, put-begins, put-asks, put-goes, put-ends}
-use Rattle·emitting·proofs.proofs.put_rows.Statement.{statement}
-use Rattle·emitting·proofs.proofs.put_rows.Tie as tie
+use Rattle.emitting.proofs.Overs.{Putting, put-begins, put_asks, put-goes, put-ends}
+use Rattle.emitting.proofs.put_rows.Statement.{statement}
+use Rattle.emitting.proofs.put_rows.Tie as tie
 
-abbrev Inv-loop : tie.InvT-loop
-Inv-loop types rows count source own out₀ at to₀ n₀ out to n =
+abbrev invariant-loop : tie.invariant-loop
+invariant-loop types rows count source own out₀ at to₀ n₀ out to n =
     Putting rows count source own out₀ at out to n
 
-abbrev μ-loop : tie.MeasureT-loop
-μ-loop types rows count source own out₀ at to₀ n₀ out to n =
+abbrev decreases-loop : tie.decreases-loop
+decreases-loop types rows count source own out₀ at to₀ n₀ out to n =
     count - n
 
-loop-holds : tie.Need-loop-holds Inv-loop μ-loop
+loop-holds : tie.Need-loop-init invariant-loop decreases-loop
 loop-holds c =
     put-begins _ _ _ _ _ _
 
-put-row-requires : tie.Need-put-row-requires Inv-loop μ-loop
+put-row-requires : tie.Need-put-row-requires invariant-loop decreases-loop
 put-row-requires c κs =
-    let s = c .before .before .before .before .before .before in (s .pre .0, put-asks (s .args .rows .now) (s .args .count) (s .args .source .now) (s .args .own) (s .args .out .now) (s .args .at) (s .pre .1) _ _ _ (c .before .before .loop .inv) (c .before .loop-test .taken))
+    let s = c.before.before.before.before.before.before in (s.requires.0, put_asks s.args.rows.now s.args.count s.args.source.now s.args.own s.args.out.now s.args.at s.requires.1 _ _ _ c.before.before.loop.invariant c.before.loop-test.true)
 
-add-n : tie.Need-add-n Inv-loop μ-loop
+add-n : tie.Need-overflow-add-n invariant-loop decreases-loop
 add-n c =
     omega arith
 
-loop-less : tie.Need-loop-less Inv-loop μ-loop
+loop-less : tie.Need-loop-smaller invariant-loop decreases-loop
 loop-less c =
     omega arith
 
-loop-again : tie.Need-loop-again Inv-loop μ-loop
+loop-again : tie.Need-loop-preserved invariant-loop decreases-loop
 loop-again c =
-    let s = c .before .before .before .before .before .before .before .before .before in put-goes (s .args .rows .now) (s .args .count) (s .args .source .now) (s .args .own) (s .args .out .now) (s .args .at) (s .pre .1) _ _ _ (c .before .before .before .before .before .loop .inv) (c .before .before .before .before .loop-test .taken) _ _ (c .before .before .put-row .ensures) (omega arith)
+    let s = c.before.before.before.before.before.before.before.before.before in put-goes s.args.rows.now s.args.count s.args.source.now s.args.own s.args.out.now s.args.at s.requires.1 _ _ _ c.before.before.before.before.before.loop.invariant c.before.before.before.before.loop-test.true _ _ c.before.before.put-row.ensures (omega arith)
 
-same-length : tie.Need-same-length Inv-loop μ-loop
-same-length c =
-    c .before .loop .inv .long
+same_length : tie.Need-same-length invariant-loop decreases-loop
+same_length c =
+    c.before.loop.invariant.long
 
-returns : tie.Need-returns Inv-loop μ-loop
+returns : tie.Need-returns invariant-loop decreases-loop
 returns c =
-    let s = c .before .before .before .before .before in put-ends (s .args .rows .now) (s .args .count) (s .args .source .now) (s .args .own) (s .args .out .now) (s .args .at) _ _ _ (c .before .loop .inv) (c .loop-test .left)
+    let s = c.before.before.before.before.before in put-ends s.args.rows.now s.args.count s.args.source.now s.args.own s.args.out.now s.args.at _ _ _ c.before.loop.invariant c.loop-test.false
 
 pub put-rows-spec : {M : Type 1} → statement M
 put-rows-spec =
     tie.close
     (tie.spec
-    Inv-loop
-    μ-loop
+    invariant-loop
+    decreases-loop
     loop-holds
     put-row-requires
     add-n
     loop-less
     loop-again
-    same-length
+    same_length
     returns)

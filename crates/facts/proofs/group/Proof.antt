@@ -1,16 +1,16 @@
 -- `group` is a test of the mark. Assumes nothing.
 use mathlib.Core.Path.{refl}
-use borrow.Author.Needs.{needs}
-use Rattle·facts·specs.specs.Facts.{groupIn}
-use Rattle·facts·proofs.proofs.group.Statement.{statement}
-use Rattle·facts·proofs.proofs.group.Tie as tie
+use borrow.Author.Rules.{rules}
+use Rattle.facts.specs.Facts.{group_in}
+use Rattle.facts.proofs.group.Statement.{statement}
+use Rattle.facts.proofs.group.Tie as tie
 
 mark-requires : tie.Need-mark-requires
-mark-requires c κs = search needs
+mark-requires c κs = search rules
 
 returns : tie.Need-returns
-unfolding groupIn
-returns c = rw (c .mark .ensures)
+unfolding group_in
+returns c = rw c.mark.ensures
 
 pub group-spec : {M : Type 1} → statement M
 group-spec = tie.close (tie.spec mark-requires returns)

@@ -1,12 +1,12 @@
 -- `facts::table` meets its contract: the constant is the table of the rules, computed. Assumes nothing.
 use mathlib.Core.Path.{refl}
-use Rattle·rules.specs.Types.{groups, isGroup, wholeTypes, coversWhole, restTypes, coversRest}
-use Rattle·facts·specs.specs.Facts.{markOf, octetOf, octetsFrom, facts}
-use Rattle·facts·proofs.proofs.table.Statement.{statement}
-use Rattle·facts·proofs.proofs.table.Tie as tie
+use Rattle.rules.specs.Types.{groups, is_group, whole_types, covers_whole, rest_types, covers_rest}
+use Rattle.facts.specs.Facts.{mark_of, octet_of, octets_from, facts}
+use Rattle.facts.proofs.table.Statement.{statement}
+use Rattle.facts.proofs.table.Tie as tie
 
 returns : tie.Need-returns
-unfolding facts octetsFrom octetOf markOf isGroup groups coversWhole restTypes coversRest wholeTypes
+unfolding facts octets_from octet_of mark_of is_group groups covers_whole rest_types covers_rest whole_types
 returns c = refl
 
 pub table-spec : {M : Type 1} → statement M

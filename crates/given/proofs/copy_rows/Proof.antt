@@ -1,109 +1,109 @@
 -- `copy_rows` reads number after number. Assumes nothing.
-use mathlib.Core.Path.{_≡_, sym, _∙_}
+use mathlib.Core.Path.{◌≡◌, sym, ◌∙◌}
 use native.Mathlib.Omega.{arith}
-use Prim.Native.Nat.{_-_}
+use Prim.Native.Nat.{◌-◌}
 use mathlib.Core.List.{[]}
-use Rattle·given·specs.specs.Given.{tableIn}
-use Rattle·given·proofs.proofs.Tables.{table-length, Copying, copy-begins, copy-goes, copy-ends}
-use borrow.Author.Needs.{needs}
-use borrow.Author.Needs.{needs}
-use Rattle·given·proofs.proofs.copy_rows.Statement.{statement}
-use Rattle·given·proofs.proofs.copy_rows.Tie as tie
+use Rattle.given.specs.Given.{table_in}
+use Rattle.given.proofs.Tables.{table-length, Copying, copy-begins, copy_goes, copy-ends}
+use borrow.Author.Rules.{rules}
+use borrow.Author.Rules.{rules}
+use Rattle.given.proofs.copy_rows.Statement.{statement}
+use Rattle.given.proofs.copy_rows.Tie as tie
 
-abbrev Inv-loop : tie.InvT-loop
-Inv-loop table count rows₀ j₀ rows j = Copying count (tableIn [] table) rows₀ rows j
+abbrev invariant-loop : tie.invariant-loop
+invariant-loop table count rows₀ j₀ rows j = Copying count (table_in [] table) rows₀ rows j
 
-abbrev μ-loop : tie.MeasureT-loop
-μ-loop table count rows₀ j₀ rows j = count - j
+abbrev decreases-loop : tie.decreases-loop
+decreases-loop table count rows₀ j₀ rows j = count - j
 
-loop-holds : tie.Need-loop-holds Inv-loop μ-loop
+loop-holds : tie.Need-loop-init invariant-loop decreases-loop
 loop-holds c = copy-begins _ _ _
 
-mul-two : tie.Need-mul-two Inv-loop μ-loop
+mul-two : tie.Need-overflow-mul-two invariant-loop decreases-loop
 mul-two c =
-    let s = c .before .before .before .before in
-    let loop-test = c .loop-test in
-    omega (arith, s .pre .there, table-length [] (s .args .table .now), loop-test .taken)
+    let s = c.before.before.before.before in
+    let loop-test = c.loop-test in
+    omega (arith, s.requires.there, table-length [] s.args.table.now, loop-test.true)
 
-add-two : tie.Need-add-two Inv-loop μ-loop
+add-two : tie.Need-overflow-add-two invariant-loop decreases-loop
 add-two c =
-    let s = c .before .before .before .before in
-    let loop-test = c .loop-test in
-    omega (arith, s .pre .there, table-length [] (s .args .table .now), loop-test .taken)
+    let s = c.before.before.before.before in
+    let loop-test = c.loop-test in
+    omega (arith, s.requires.there, table-length [] s.args.table.now, loop-test.true)
 
-shared-slice-read-two : tie.Need-shared-slice-read-two Inv-loop μ-loop
+shared-slice-read-two : tie.Need-shared-slice-read-two invariant-loop decreases-loop
 shared-slice-read-two c =
-    let s = c .before .before .before .before .before in
-    let loop-test = c .before .loop-test in
-    omega (arith, s .pre .there, table-length [] (s .args .table .now), loop-test .taken)
+    let s = c.before.before.before.before.before in
+    let loop-test = c.before.loop-test in
+    omega (arith, s.requires.there, table-length [] s.args.table.now, loop-test.true)
 
-mul-two-2 : tie.Need-mul-two-2 Inv-loop μ-loop
+mul-two-2 : tie.Need-overflow-mul-two-2 invariant-loop decreases-loop
 mul-two-2 c =
-    let s = c .before .before .before .before .before in
-    let loop-test = c .before .loop-test in
-    omega (arith, s .pre .there, table-length [] (s .args .table .now), loop-test .taken)
+    let s = c.before.before.before.before.before in
+    let loop-test = c.before.loop-test in
+    omega (arith, s.requires.there, table-length [] s.args.table.now, loop-test.true)
 
-add-two-2 : tie.Need-add-two-2 Inv-loop μ-loop
+add-two-2 : tie.Need-overflow-add-two-2 invariant-loop decreases-loop
 add-two-2 c =
-    let s = c .before .before .before .before .before in
-    let loop-test = c .before .loop-test in
-    omega (arith, s .pre .there, table-length [] (s .args .table .now), loop-test .taken)
+    let s = c.before.before.before.before.before in
+    let loop-test = c.before.loop-test in
+    omega (arith, s.requires.there, table-length [] s.args.table.now, loop-test.true)
 
-shared-slice-read-two-2 : tie.Need-shared-slice-read-two-2 Inv-loop μ-loop
+shared-slice-read-two-2 : tie.Need-shared-slice-read-two-2 invariant-loop decreases-loop
 shared-slice-read-two-2 c =
-    let s = c .before .before .before .before .before .before in
-    let loop-test = c .before .before .loop-test in
-    omega (arith, s .pre .there, table-length [] (s .args .table .now), loop-test .taken)
+    let s = c.before.before.before.before.before.before in
+    let loop-test = c.before.before.loop-test in
+    omega (arith, s.requires.there, table-length [] s.args.table.now, loop-test.true)
 
-two-requires : tie.Need-two-requires Inv-loop μ-loop
+two-requires : tie.Need-two-requires invariant-loop decreases-loop
 two-requires c κs = tt
 
-mul-rows : tie.Need-mul-rows Inv-loop μ-loop
-mul-rows c = search needs
+mul-rows : tie.Need-overflow-mul-rows invariant-loop decreases-loop
+mul-rows c = search rules
 
-slice-write-rows : tie.Need-slice-write-rows Inv-loop μ-loop
+slice-write-rows : tie.Need-slice-write-rows invariant-loop decreases-loop
 slice-write-rows c =
-    let loop = c .before .before .before .before .loop in
-    let s = c .before .before .before .before .before .before .before in
-    let loop-test = c .before .before .before .loop-test in
-    omega (arith, loop .inv .size, s .pre .room, loop-test .taken)
+    let loop = c.before.before.before.before.loop in
+    let s = c.before.before.before.before.before.before.before in
+    let loop-test = c.before.before.before.loop-test in
+    omega (arith, loop.invariant.size, s.requires.room, loop-test.true)
 
-add-j : tie.Need-add-j Inv-loop μ-loop
+add-j : tie.Need-overflow-add-j invariant-loop decreases-loop
 add-j c =
-    let s = c .before .before .before .before .before .before .before in
-    let loop-test = c .before .before .before .loop-test in
-    omega (arith, s .pre .there, table-length [] (s .args .table .now), loop-test .taken)
+    let s = c.before.before.before.before.before.before.before in
+    let loop-test = c.before.before.before.loop-test in
+    omega (arith, s.requires.there, table-length [] s.args.table.now, loop-test.true)
 
-loop-less : tie.Need-loop-less Inv-loop μ-loop
+loop-less : tie.Need-loop-smaller invariant-loop decreases-loop
 loop-less c =
-    let loop-test = c .before .before .before .loop-test in
-    omega (arith, loop-test .taken)
+    let loop-test = c.before.before.before.loop-test in
+    omega (arith, loop-test.true)
 
-loop-again : tie.Need-loop-again Inv-loop μ-loop
+loop-again : tie.Need-loop-preserved invariant-loop decreases-loop
 loop-again c =
-    let s = c .before .before .before .before .before .before .before in
-    let loop = c .before .before .before .before .loop in
-    let loop-test = c .before .before .before .loop-test in
-    let two = c .two in
-    copy-goes (s .args .table .now) (loop .inv) (s .pre) (loop-test .taken) _ (two .ensures)
+    let s = c.before.before.before.before.before.before.before in
+    let loop = c.before.before.before.before.loop in
+    let loop-test = c.before.before.before.loop-test in
+    let two = c.two in
+    copy_goes s.args.table.now loop.invariant s.requires loop-test.true _ two.ensures
 
-same-length : tie.Need-same-length Inv-loop μ-loop
-same-length c =
-    let loop = c .before .loop in
-    loop .inv .size
+same_length : tie.Need-same-length invariant-loop decreases-loop
+same_length c =
+    let loop = c.before.loop in
+    loop.invariant.size
 
-returns : tie.Need-returns Inv-loop μ-loop
+returns : tie.Need-returns invariant-loop decreases-loop
 returns c =
-    let loop = c .before .loop in
-    let loop-test = c .loop-test in
-    copy-ends (loop .inv) (loop-test .left)
+    let loop = c.before.loop in
+    let loop-test = c.loop-test in
+    copy-ends loop.invariant loop-test.false
 
 pub copy-rows-spec : {M : Type 1} → statement M
 copy-rows-spec =
     tie.close
     (tie.spec
-    Inv-loop
-    μ-loop
+    invariant-loop
+    decreases-loop
     loop-holds
     mul-two
     add-two
@@ -117,5 +117,5 @@ copy-rows-spec =
     add-j
     loop-less
     loop-again
-    same-length
+    same_length
     returns)

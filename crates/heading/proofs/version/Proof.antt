@@ -1,12 +1,12 @@
 -- `version` meets its contract: it is the reading of the first octet. Assumes nothing.
 use mathlib.Core.Path.{refl}
-use borrow.Author.Needs.{needs}
-use Rattle·rules.specs.Framing.{version}
-use Rattle·heading·proofs.proofs.version.Statement.{statement}
-use Rattle·heading·proofs.proofs.version.Tie as tie
+use borrow.Author.Rules.{rules}
+use Rattle.rules.specs.Framing.{version}
+use Rattle.heading.proofs.version.Statement.{statement}
+use Rattle.heading.proofs.version.Tie as tie
 
 shared-slice-read-result : tie.Need-shared-slice-read-result
-shared-slice-read-result c = search needs
+shared-slice-read-result c = search rules
 
 returns : tie.Need-returns
 unfolding version

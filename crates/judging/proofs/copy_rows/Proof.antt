@@ -1,55 +1,55 @@
 -- `copy_rows` copies number by number. Assumes nothing.
-use Prim.Native.Nat.{_-_}
+use Prim.Native.Nat.{◌-◌}
 use native.Mathlib.Omega.{arith}
-use Rattle·judging·proofs.proofs.Writing.{Copying, copy-start, copy-next, copy-end}
-use Rattle·judging·proofs.proofs.copy_rows.Statement.{statement}
-use Rattle·judging·proofs.proofs.copy_rows.Tie as tie
+use Rattle.judging.proofs.Writing.{Copying, copy_start, copy-next, copy-end}
+use Rattle.judging.proofs.copy_rows.Statement.{statement}
+use Rattle.judging.proofs.copy_rows.Tie as tie
 
-abbrev Inv-loop : tie.InvT-loop
-Inv-loop rows count table₀ i₀ table i = Copying table₀ rows count table i
+abbrev invariant-loop : tie.invariant-loop
+invariant-loop rows count table₀ i₀ table i = Copying table₀ rows count table i
 
-abbrev μ-loop : tie.MeasureT-loop
-μ-loop rows count table₀ i₀ table i = count - i
+abbrev decreases-loop : tie.decreases-loop
+decreases-loop rows count table₀ i₀ table i = count - i
 
-loop-holds : tie.Need-loop-holds Inv-loop μ-loop
-loop-holds c = copy-start _ _ _
+loop-holds : tie.Need-loop-init invariant-loop decreases-loop
+loop-holds c = copy_start _ _ _
 
-mul-table : tie.Need-mul-table Inv-loop μ-loop
+mul-table : tie.Need-overflow-mul-table invariant-loop decreases-loop
 mul-table c = omega arith
 
-shared-slice-read-table : tie.Need-shared-slice-read-table Inv-loop μ-loop
+shared-slice-read-table : tie.Need-shared-slice-read-table invariant-loop decreases-loop
 shared-slice-read-table c = omega arith
 
-add-table : tie.Need-add-table Inv-loop μ-loop
+add-table : tie.Need-overflow-add-table invariant-loop decreases-loop
 add-table c = omega arith
 
-mul-table-2 : tie.Need-mul-table-2 Inv-loop μ-loop
+mul-table-2 : tie.Need-overflow-mul-table-2 invariant-loop decreases-loop
 mul-table-2 c = omega arith
 
-slice-write-table : tie.Need-slice-write-table Inv-loop μ-loop
+slice-write-table : tie.Need-slice-write-table invariant-loop decreases-loop
 slice-write-table c = omega arith
 
-add-i : tie.Need-add-i Inv-loop μ-loop
+add-i : tie.Need-overflow-add-i invariant-loop decreases-loop
 add-i c = omega arith
 
-loop-less : tie.Need-loop-less Inv-loop μ-loop
+loop-less : tie.Need-loop-smaller invariant-loop decreases-loop
 loop-less c = omega arith
 
-loop-again : tie.Need-loop-again Inv-loop μ-loop
-loop-again c = copy-next (c .before .before .loop .inv) (c .before .loop-test .taken) (c .before .before .before .pre .0) (c .before .before .before .pre .1)
+loop-again : tie.Need-loop-preserved invariant-loop decreases-loop
+loop-again c = copy-next c.before.before.loop.invariant c.before.loop-test.true c.before.before.before.requires.0 c.before.before.before.requires.1
 
-same-length : tie.Need-same-length Inv-loop μ-loop
-same-length c = omega arith
+same_length : tie.Need-same-length invariant-loop decreases-loop
+same_length c = omega arith
 
-returns : tie.Need-returns Inv-loop μ-loop
-returns c = copy-end (c .before .loop .inv) (c .loop-test .left)
+returns : tie.Need-returns invariant-loop decreases-loop
+returns c = copy-end c.before.loop.invariant c.loop-test.false
 
 pub copy-rows-spec : {M : Type 1} → statement M
 copy-rows-spec =
     tie.close
     (tie.spec
-    Inv-loop
-    μ-loop
+    invariant-loop
+    decreases-loop
     loop-holds
     mul-table
     shared-slice-read-table
@@ -59,5 +59,5 @@ copy-rows-spec =
     add-i
     loop-less
     loop-again
-    same-length
+    same_length
     returns)

@@ -1,29 +1,29 @@
 -- `four_at` loads four octets. Assumes nothing.
-use Rattle·keeping·proofs.proofs.Storing.{run-four}
-use borrow.Author.Needs.{needs}
-use Rattle·keeping·proofs.proofs.four_at.Statement.{statement}
-use Rattle·keeping·proofs.proofs.four_at.Tie as tie
+use Rattle.keeping.proofs.Storing.{run-four}
+use borrow.Author.Rules.{rules}
+use Rattle.keeping.proofs.four_at.Statement.{statement}
+use Rattle.keeping.proofs.four_at.Tie as tie
 
 shared-slice-read-t4 : tie.Need-shared-slice-read-t4
-shared-slice-read-t4 c = search needs
+shared-slice-read-t4 c = search rules
 
-add-t5 : tie.Need-add-t5
-add-t5 c = search needs
+add-t5 : tie.Need-overflow-add-t5
+add-t5 c = search rules
 
 shared-slice-read-t7 : tie.Need-shared-slice-read-t7
-shared-slice-read-t7 c = search needs
+shared-slice-read-t7 c = search rules
 
-add-t8 : tie.Need-add-t8
-add-t8 c = search needs
+add-t8 : tie.Need-overflow-add-t8
+add-t8 c = search rules
 
 shared-slice-read-t10 : tie.Need-shared-slice-read-t10
-shared-slice-read-t10 c = search needs
+shared-slice-read-t10 c = search rules
 
-add-t11 : tie.Need-add-t11
-add-t11 c = search needs
+add-t11 : tie.Need-overflow-add-t11
+add-t11 c = search rules
 
 shared-slice-read-t13 : tie.Need-shared-slice-read-t13
-shared-slice-read-t13 c = search needs
+shared-slice-read-t13 c = search rules
 
 returns : tie.Need-returns
 returns c = run-four _ _

@@ -1,49 +1,49 @@
 -- `put_four` stores four octets one after another. Assumes nothing.
 use native.Mathlib.Omega.{arith}
 use lib.ListN.{length-set}
-use Rattle·keeping·proofs.proofs.Storing.{four-set}
-use borrow.Author.Needs.{needs}
-use Rattle·keeping·proofs.proofs.put_four.Statement.{statement}
-use Rattle·keeping·proofs.proofs.put_four.Tie as tie
+use Rattle.keeping.proofs.Storing.{four-set}
+use borrow.Author.Rules.{rules}
+use Rattle.keeping.proofs.put_four.Statement.{statement}
+use Rattle.keeping.proofs.put_four.Tie as tie
 
 array-read-out : tie.Need-array-read-out
-array-read-out c = search needs
+array-read-out c = search rules
 
 slice-write-out : tie.Need-slice-write-out
-slice-write-out c = search needs
+slice-write-out c = search rules
 
 array-read-out-2 : tie.Need-array-read-out-2
-array-read-out-2 c = search needs
+array-read-out-2 c = search rules
 
-add-out : tie.Need-add-out
-add-out c = search needs
+add-out : tie.Need-overflow-add-out
+add-out c = search rules
 
 slice-write-out-2 : tie.Need-slice-write-out-2
-slice-write-out-2 c = simp length-set (omega (arith, c .pre))
+slice-write-out-2 c = simp length-set (omega (arith, c.requires))
 
 array-read-out-3 : tie.Need-array-read-out-3
-array-read-out-3 c = search needs
+array-read-out-3 c = search rules
 
-add-out-2 : tie.Need-add-out-2
-add-out-2 c = search needs
+add-out-2 : tie.Need-overflow-add-out-2
+add-out-2 c = search rules
 
 slice-write-out-3 : tie.Need-slice-write-out-3
-slice-write-out-3 c = simp length-set (omega (arith, c .pre))
+slice-write-out-3 c = simp length-set (omega (arith, c.requires))
 
 array-read-out-4 : tie.Need-array-read-out-4
-array-read-out-4 c = search needs
+array-read-out-4 c = search rules
 
-add-out-3 : tie.Need-add-out-3
-add-out-3 c = search needs
+add-out-3 : tie.Need-overflow-add-out-3
+add-out-3 c = search rules
 
 slice-write-out-4 : tie.Need-slice-write-out-4
-slice-write-out-4 c = simp length-set (omega (arith, c .pre))
+slice-write-out-4 c = simp length-set (omega (arith, c.requires))
 
-same-length : tie.Need-same-length
-same-length c = search needs
+same_length : tie.Need-same-length
+same_length c = search rules
 
 returns : tie.Need-returns
-returns c = four-set (c .args .out .now) (c .args .at) _
+returns c = four-set c.args.out.now c.args.at _
 
 pub put-four-spec : {M : Type 1} → statement M
 put-four-spec =
@@ -60,5 +60,5 @@ put-four-spec =
     array-read-out-4
     add-out-3
     slice-write-out-4
-    same-length
+    same_length
     returns)

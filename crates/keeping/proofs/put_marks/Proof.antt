@@ -1,50 +1,50 @@
 -- `put_marks` stores octet by octet. Assumes nothing.
 use mathlib.Core.Path.{refl}
-use Prim.Native.Nat.{_-_}
+use Prim.Native.Nat.{◌-◌}
 use native.Mathlib.Omega.{arith}
-use Rattle·keeping·proofs.proofs.Storing.{Moving, none-moved, next-moved, all-moved}
-use Rattle·keeping·proofs.proofs.put_marks.Statement.{statement}
-use Rattle·keeping·proofs.proofs.put_marks.Tie as tie
+use Rattle.keeping.proofs.Storing.{Moving, none-moved, next-moved, all_moved}
+use Rattle.keeping.proofs.put_marks.Statement.{statement}
+use Rattle.keeping.proofs.put_marks.Tie as tie
 
-abbrev Inv-loop : tie.InvT-loop
-Inv-loop marks at out₀ i₀ out i = Moving out₀ at marks 0 out i
+abbrev invariant-loop : tie.invariant-loop
+invariant-loop marks at out₀ i₀ out i = Moving out₀ at marks 0 out i
 
-abbrev μ-loop : tie.MeasureT-loop
-μ-loop marks at out₀ i₀ out i = 32 - i
+abbrev decreases-loop : tie.decreases-loop
+decreases-loop marks at out₀ i₀ out i = 32 - i
 
-loop-holds : tie.Need-loop-holds Inv-loop μ-loop
+loop-holds : tie.Need-loop-init invariant-loop decreases-loop
 loop-holds c = none-moved _ _ _ _
 
-element-copy-out-out : tie.Need-element-copy-out-out Inv-loop μ-loop
+element-copy-out-out : tie.Need-element-copy-out-out invariant-loop decreases-loop
 element-copy-out-out c = omega arith
 
-add-out : tie.Need-add-out Inv-loop μ-loop
+add-out : tie.Need-overflow-add-out invariant-loop decreases-loop
 add-out c = omega arith
 
-slice-write-out : tie.Need-slice-write-out Inv-loop μ-loop
+slice-write-out : tie.Need-slice-write-out invariant-loop decreases-loop
 slice-write-out c = omega arith
 
-add-i : tie.Need-add-i Inv-loop μ-loop
+add-i : tie.Need-overflow-add-i invariant-loop decreases-loop
 add-i c = omega arith
 
-loop-less : tie.Need-loop-less Inv-loop μ-loop
+loop-less : tie.Need-loop-smaller invariant-loop decreases-loop
 loop-less c = omega arith
 
-loop-again : tie.Need-loop-again Inv-loop μ-loop
-loop-again c = next-moved (c .before .before .loop .inv) refl (omega arith) (omega arith)
+loop-again : tie.Need-loop-preserved invariant-loop decreases-loop
+loop-again c = next-moved c.before.before.loop.invariant refl (omega arith) (omega arith)
 
-same-length : tie.Need-same-length Inv-loop μ-loop
-same-length c = omega arith
+same_length : tie.Need-same-length invariant-loop decreases-loop
+same_length c = omega arith
 
-returns : tie.Need-returns Inv-loop μ-loop
-returns c = all-moved (c .before .loop .inv) (c .loop-test .left)
+returns : tie.Need-returns invariant-loop decreases-loop
+returns c = all_moved c.before.loop.invariant c.loop-test.false
 
 pub put-marks-spec : {M : Type 1} → statement M
 put-marks-spec =
     tie.close
     (tie.spec
-    Inv-loop
-    μ-loop
+    invariant-loop
+    decreases-loop
     loop-holds
     element-copy-out-out
     add-out
@@ -52,5 +52,5 @@ put-marks-spec =
     add-i
     loop-less
     loop-again
-    same-length
+    same_length
     returns)

@@ -1,32 +1,32 @@
 -- `put_watch` stores what is held of a limited level. Assumes nothing.
-use Rattle·keeping·proofs.proofs.Storing.{watch-set}
-use borrow.Author.Needs.{needs}
-use Rattle·keeping·proofs.proofs.put_watch.Statement.{statement}
-use Rattle·keeping·proofs.proofs.put_watch.Tie as tie
+use Rattle.keeping.proofs.Storing.{watch-set}
+use borrow.Author.Rules.{rules}
+use Rattle.keeping.proofs.put_watch.Statement.{statement}
+use Rattle.keeping.proofs.put_watch.Tie as tie
 
 flag-requires : tie.Need-flag-requires
-flag-requires c κs = search needs
+flag-requires c κs = search rules
 
 put-one-requires : tie.Need-put-one-requires
-put-one-requires c κs = search needs
+put-one-requires c κs = search rules
 
 put-number-requires : tie.Need-put-number-requires
-put-number-requires c κs = search needs
+put-number-requires c κs = search rules
 
 put-counts-requires : tie.Need-put-counts-requires
-put-counts-requires c κs = search needs
+put-counts-requires c κs = search rules
 
-same-length : tie.Need-same-length
-same-length c = search needs
+same_length : tie.Need-same-length
+same_length c = search rules
 
 returns : tie.Need-returns
 returns c =
-    let p3 = c .before .before in
-    let p2 = p3 .before .before .before .before in
-    let p1 = p2 .before .before .before .before in
-    let s = p1 .before .before .before .before .before in
-    rw (p3 .put-counts .ensures, p2 .put-number .ensures, p1 .put-one .ensures, p1 .before .before .flag .ensures)
-    (watch-set (s .args .out .now) (s .args .w))
+    let p3 = c.before.before in
+    let p2 = p3.before.before.before.before in
+    let p1 = p2.before.before.before.before in
+    let s = p1.before.before.before.before.before in
+    rw (p3.put-counts.ensures, p2.put-number.ensures, p1.put_one.ensures, p1.before.before.flag.ensures)
+    (watch-set s.args.out.now s.args.w)
 
 pub put-watch-spec : {M : Type 1} → statement M
 put-watch-spec =
@@ -36,5 +36,5 @@ put-watch-spec =
     put-one-requires
     put-number-requires
     put-counts-requires
-    same-length
+    same_length
     returns)

@@ -1,67 +1,67 @@
 -- `row_lines` puts line after line. Assumes nothing.
-use Prim.Native.Nat.{_-_}
+use Prim.Native.Nat.{◌-◌}
 use native.Mathlib.Omega.{arith}
 use lib.ListN.{length-take, length-drop}
-use borrow.Author.Needs.{needs}
-use Rattle·rules.specs.Program.{line}
-use Rattle·wording.proofs.Puts.{same-room}
-use Rattle·wording.proofs.Turns.{Turning, turns-start, turns-next, turns-all}
-use Rattle·lines·specs.specs.Lines.{sixOf}
-use Rattle·lines·proofs.proofs.Lines.{six-from}
-use Rattle·lines·proofs.proofs.row_lines.Statement.{statement}
-use Rattle·lines·proofs.proofs.row_lines.Tie as tie
+use borrow.Author.Rules.{rules}
+use Rattle.rules.specs.Program.{line}
+use Rattle.wording.proofs.Puts.{same-room}
+use Rattle.wording.proofs.Turns.{Turning, turns-start, turns_next, turns-all}
+use Rattle.lines.specs.Lines.{six_of}
+use Rattle.lines.proofs.Lines.{six-from}
+use Rattle.lines.proofs.row_lines.Statement.{statement}
+use Rattle.lines.proofs.row_lines.Tie as tie
 
-abbrev Inv-loop : tie.InvT-loop
-Inv-loop rows count at out₀ to₀ n₀ out to n = Turning (λ i. line (sixOf rows i)) 0 count at out₀ to out n
+abbrev invariant-loop : tie.invariant-loop
+invariant-loop rows count at out₀ to₀ n₀ out to n = Turning (λ i. line (six_of rows i)) 0 count at out₀ to out n
 
-abbrev μ-loop : tie.MeasureT-loop
-μ-loop rows count at out₀ to₀ n₀ out to n = count - n
+abbrev decreases-loop : tie.decreases-loop
+decreases-loop rows count at out₀ to₀ n₀ out to n = count - n
 
-loop-holds : tie.Need-loop-holds Inv-loop μ-loop
+loop-holds : tie.Need-loop-init invariant-loop decreases-loop
 loop-holds c = turns-start _ _ _ _ _
 
-mul-from : tie.Need-mul-from Inv-loop μ-loop
+mul-from : tie.Need-overflow-mul-from invariant-loop decreases-loop
 mul-from c = omega arith
 
-add-end : tie.Need-add-end Inv-loop μ-loop
+add-end : tie.Need-overflow-add-end invariant-loop decreases-loop
 add-end c = omega arith
 
-mul-row-line : tie.Need-mul-row-line Inv-loop μ-loop
-mul-row-line c = search needs
+mul-row-line : tie.Need-overflow-mul-row-line invariant-loop decreases-loop
+mul-row-line c = search rules
 
-sub-row-line : tie.Need-sub-row-line Inv-loop μ-loop
+sub-row-line : tie.Need-overflow-sub-row-line invariant-loop decreases-loop
 sub-row-line c = omega arith
 
-part-row-line-start : tie.Need-part-row-line-start Inv-loop μ-loop
+part-row-line-start : tie.Need-slice-bounds-row-line-start invariant-loop decreases-loop
 part-row-line-start c = omega arith
 
-part-row-line-end : tie.Need-part-row-line-end Inv-loop μ-loop
+part-row-line-end : tie.Need-slice-bounds-row-line-end invariant-loop decreases-loop
 part-row-line-end c = omega arith
 
-row-line-requires : tie.Need-row-line-requires Inv-loop μ-loop
+row-line-requires : tie.Need-row-line-requires invariant-loop decreases-loop
 row-line-requires c κs = simp (length-take, length-drop) (omega arith)
 
-add-n : tie.Need-add-n Inv-loop μ-loop
+add-n : tie.Need-overflow-add-n invariant-loop decreases-loop
 add-n c = omega arith
 
-loop-less : tie.Need-loop-less Inv-loop μ-loop
+loop-less : tie.Need-loop-smaller invariant-loop decreases-loop
 loop-less c = omega arith
 
-loop-again : tie.Need-loop-again Inv-loop μ-loop
-loop-again c = turns-next (c .before .before .before .before .before .before .loop .inv) (c .before .before .before .before .before .loop-test .taken) (rw six-from at (c .before .before .row-line .ensures))
+loop-again : tie.Need-loop-preserved invariant-loop decreases-loop
+loop-again c = turns_next c.before.before.before.before.before.before.loop.invariant c.before.before.before.before.before.loop-test.true (rw six-from at c.before.before.row-line.ensures)
 
-same-length : tie.Need-same-length Inv-loop μ-loop
-same-length c = same-room (turns-all (c .before .loop .inv) (c .loop-test .left))
+same_length : tie.Need-same-length invariant-loop decreases-loop
+same_length c = same-room (turns-all c.before.loop.invariant c.loop-test.false)
 
-returns : tie.Need-returns Inv-loop μ-loop
-returns c = turns-all (c .before .loop .inv) (c .loop-test .left)
+returns : tie.Need-returns invariant-loop decreases-loop
+returns c = turns-all c.before.loop.invariant c.loop-test.false
 
 pub row-lines-spec : {M : Type 1} → statement M
 row-lines-spec =
     tie.close
     (tie.spec
-    Inv-loop
-    μ-loop
+    invariant-loop
+    decreases-loop
     loop-holds
     mul-from
     add-end
@@ -73,5 +73,5 @@ row-lines-spec =
     add-n
     loop-less
     loop-again
-    same-length
+    same_length
     returns)

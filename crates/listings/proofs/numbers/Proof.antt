@@ -1,12 +1,12 @@
 -- `numbers` meets its contract: the constant is the listings as numbers, computed. Assumes nothing.
 use mathlib.Core.Path.{refl}
-use Rattle·rules.specs.Listings.{levels, book}
-use Rattle·listings·specs.specs.Data.{skipped, entryOf, entriesOf, joined, begins, numbersOf}
-use Rattle·listings·proofs.proofs.numbers.Statement.{statement}
-use Rattle·listings·proofs.proofs.numbers.Tie as tie
+use Rattle.rules.specs.Listings.{levels, book}
+use Rattle.listings.specs.Data.{skipped, entry_of, entries_of, joined, begins, numbers_of}
+use Rattle.listings.proofs.numbers.Statement.{statement}
+use Rattle.listings.proofs.numbers.Tie as tie
 
 returns : tie.Need-returns
-unfolding book levels skipped entryOf entriesOf joined begins numbersOf
+unfolding book levels skipped entry_of entries_of joined begins numbers_of
 returns c = refl
 
 pub numbers-spec : {M : Type 1} → statement M

@@ -1,29 +1,29 @@
 -- `number` meets its contract: a row that the table has lies in it, with its six numbers. Assumes nothing.
 use native.Mathlib.Omega.{arith}
-use borrow.Author.Needs.{needs}
-use Rattle·lookup·proofs.proofs.number.Statement.{statement}
-use Rattle·lookup·proofs.proofs.number.Tie as tie
+use borrow.Author.Rules.{rules}
+use Rattle.lookup.proofs.number.Statement.{statement}
+use Rattle.lookup.proofs.number.Tie as tie
 
-mul-wide : tie.Need-mul-wide
-mul-wide c = omega (arith, c .before .pre .row-there)
+mul_wide : tie.Need-overflow-mul-wide
+mul_wide c = omega (arith, c.before.requires.row_there)
 
-add-wide : tie.Need-add-wide
-add-wide c = omega (arith, c .before .pre .row-there)
+add_wide : tie.Need-overflow-add-wide
+add_wide c = omega (arith, c.before.requires.row_there)
 
-add-wide-2 : tie.Need-add-wide-2
-add-wide-2 c = omega (arith, c .before .pre .row-there)
+add-wide-2 : tie.Need-overflow-add-wide-2
+add-wide-2 c = omega (arith, c.before.requires.row_there)
 
-mul-wide-2 : tie.Need-mul-wide-2
-mul-wide-2 c = omega (arith, c .before .pre .row-there)
+mul-wide-2 : tie.Need-overflow-mul-wide-2
+mul-wide-2 c = omega (arith, c.before.requires.row_there)
 
 shared-slice-read-wide : tie.Need-shared-slice-read-wide
-shared-slice-read-wide c = omega (arith, c .before .before .pre .row-there)
+shared-slice-read-wide c = omega (arith, c.before.before.requires.row_there)
 
 wide-requires : tie.Need-wide-requires
-wide-requires c κs = search needs
+wide-requires c κs = search rules
 
 returns : tie.Need-returns
-returns c = search needs
+returns c = search rules
 
 pub number-spec : {M : Type 1} → statement M
-number-spec = tie.close (tie.spec mul-wide add-wide add-wide-2 mul-wide-2 shared-slice-read-wide wide-requires returns)
+number-spec = tie.close (tie.spec mul_wide add_wide add-wide-2 mul-wide-2 shared-slice-read-wide wide-requires returns)

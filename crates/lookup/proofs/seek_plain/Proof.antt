@@ -1,48 +1,48 @@
 -- `seek_plain` meets its contract. The invariant: nothing is found yet and the rows left decide, or the first is found and none is left. Assumes nothing.
-use Prim.Native.Nat.{_-_}
+use Prim.Native.Nat.{◌-◌}
 use native.Mathlib.Omega.{arith}
-use borrow.Author.Needs.{needs}
-use Rattle·lookup·proofs.proofs.Seeking.{Searching, begins, goes-on, ended, less}
-use Rattle·lookup·proofs.proofs.seek_plain.Statement.{statement}
-use Rattle·lookup·proofs.proofs.seek_plain.Tie as tie
+use borrow.Author.Rules.{rules}
+use Rattle.lookup.proofs.Seeking.{Searching, begins, goes_on, ended, less}
+use Rattle.lookup.proofs.seek_plain.Statement.{statement}
+use Rattle.lookup.proofs.seek_plain.Tie as tie
 
-abbrev Inv-loop : tie.InvT-loop
-Inv-loop count typ inst table found₀ row₀ found row = Searching table typ inst count found row
+abbrev invariant-loop : tie.invariant-loop
+invariant-loop count typ inst table found₀ row₀ found row = Searching table typ inst count found row
 
-abbrev μ-loop : tie.MeasureT-loop
-μ-loop count typ inst table found₀ row₀ found row = count - row
+abbrev decreases-loop : tie.decreases-loop
+decreases-loop count typ inst table found₀ row₀ found row = count - row
 
-loop-holds : tie.Need-loop-holds Inv-loop μ-loop
+loop-holds : tie.Need-loop-init invariant-loop decreases-loop
 loop-holds c = begins _ _ _ _
 
-is-plain-requires : tie.Need-is-plain-requires Inv-loop μ-loop
-is-plain-requires c κs = c .before .before .before .pre _ (c .loop-test .taken)
+is-plain-requires : tie.Need-is-plain-requires invariant-loop decreases-loop
+is-plain-requires c κs = c.before.before.before.requires _ c.loop-test.true
 
-pick-requires : tie.Need-pick-requires Inv-loop μ-loop
-pick-requires c κs = search needs
+pick-requires : tie.Need-pick-requires invariant-loop decreases-loop
+pick-requires c κs = search rules
 
-add-next : tie.Need-add-next Inv-loop μ-loop
+add-next : tie.Need-overflow-add-next invariant-loop decreases-loop
 add-next c = omega arith
 
-pick-requires-2 : tie.Need-pick-requires-2 Inv-loop μ-loop
-pick-requires-2 c κs = search needs
+pick-requires-2 : tie.Need-pick-requires-2 invariant-loop decreases-loop
+pick-requires-2 c κs = search rules
 
-loop-less : tie.Need-loop-less Inv-loop μ-loop
-loop-less c = less _ _ _ (c .before .before .is-plain .result) (c .before .before .before .loop-test .taken) (c .pick2 .ensures)
+loop-less : tie.Need-loop-smaller invariant-loop decreases-loop
+loop-less c = less _ _ _ c.before.before.is_plain.result c.before.before.before.loop-test.true c.pick2.ensures
 
-loop-again : tie.Need-loop-again Inv-loop μ-loop
+loop-again : tie.Need-loop-preserved invariant-loop decreases-loop
 loop-again c =
-    goes-on _ _ _ _ (c .before .before .before .before .loop .inv) (c .before .before .before .loop-test .taken) (c .before .before .is-plain .result) (c .before .before .is-plain .ensures) (c .before .pick .ensures) (c .pick2 .ensures)
+    goes_on _ _ _ _ c.before.before.before.before.loop.invariant c.before.before.before.loop-test.true c.before.before.is_plain.result c.before.before.is_plain.ensures c.before.pick.ensures c.pick2.ensures
 
-returns : tie.Need-returns Inv-loop μ-loop
-returns c = ended _ _ _ _ (c .before .loop .inv) (c .loop-test .left)
+returns : tie.Need-returns invariant-loop decreases-loop
+returns c = ended _ _ _ _ c.before.loop.invariant c.loop-test.false
 
 pub seek-plain-spec : {M : Type 1} → statement M
 seek-plain-spec =
     tie.close
     (tie.spec
-    Inv-loop
-    μ-loop
+    invariant-loop
+    decreases-loop
     loop-holds
     is-plain-requires
     pick-requires

@@ -1,32 +1,32 @@
 -- `put` stores the high octet, then the low one. Assumes nothing.
 use mathlib.Core.Path.{refl}
-use borrow.Author.Needs.{needs}
-use Rattle·octets·proofs.proofs.put.Statement.{statement}
-use Rattle·octets·proofs.proofs.put.Tie as tie
+use borrow.Author.Rules.{rules}
+use Rattle.octets.proofs.put.Statement.{statement}
+use Rattle.octets.proofs.put.Tie as tie
 
-cast-out : tie.Need-cast-out
-cast-out c = search needs
+cast-out : tie.Need-overflow-cast-out
+cast-out c = search rules
 
 slice-write-out : tie.Need-slice-write-out
-slice-write-out c = search needs
+slice-write-out c = search rules
 
-cast-out-2 : tie.Need-cast-out-2
-cast-out-2 c = search needs
+cast-out-2 : tie.Need-overflow-cast-out-2
+cast-out-2 c = search rules
 
-add-out : tie.Need-add-out
-add-out c = search needs
+add-out : tie.Need-overflow-add-out
+add-out c = search rules
 
 slice-write-out-2 : tie.Need-slice-write-out-2
-slice-write-out-2 c = search needs
+slice-write-out-2 c = search rules
 
-same-length : tie.Need-same-length
-same-length c = search needs
+same_length : tie.Need-same-length
+same_length c = search rules
 
 returns : tie.Need-returns
 returns c = refl
 
-pub put-spec : {M : Type 1} → statement M
-put-spec =
+pub put_spec : {M : Type 1} → statement M
+put_spec =
     tie.close
     (tie.spec
     cast-out
@@ -34,5 +34,5 @@ put-spec =
     cast-out-2
     add-out
     slice-write-out-2
-    same-length
+    same_length
     returns)

@@ -1,10 +1,10 @@
-use mathlib.Core.Path.{_≡_, refl, _∙_}
-use Rattle·pieces·specs.specs.Answers.{endedBy}
-use Rattle·pieces·proofs.proofs.ended.Statement.{statement}
-use Rattle·pieces·proofs.proofs.ended.Tie as tie
+use mathlib.Core.Path.{◌≡◌, refl, ◌∙◌}
+use Rattle.pieces.specs.Answers.{ended_by}
+use Rattle.pieces.proofs.ended.Statement.{statement}
+use Rattle.pieces.proofs.ended.Tie as tie
 
 returns : tie.Need-returns
-unfolding endedBy
+unfolding ended_by
 returns c = refl
 
 pub ended-spec : {M : Type 1} → statement M

@@ -1,26 +1,26 @@
 -- `claim` by whether it fits. Assumes nothing.
 use borrow.Author.Tests.{lt-ltb, le-ltb}
-use borrow.Author.Needs.{needs}
-use Rattle·refusing·proofs.proofs.claim.Statement.{statement}
-use Rattle·refusing·proofs.proofs.claim.Tie as tie
+use borrow.Author.Rules.{rules}
+use Rattle.refusing.proofs.claim.Statement.{statement}
+use Rattle.refusing.proofs.claim.Tie as tie
 
-mul-n : tie.Need-mul-n
-mul-n c = search needs
+mul-n : tie.Need-overflow-mul-n
+mul-n c = search rules
 
-add-n : tie.Need-add-n
-add-n c = search needs
+add-n : tie.Need-overflow-add-n
+add-n c = search rules
 
-add-n-2 : tie.Need-add-n-2
-add-n-2 c = search needs
+add-n-2 : tie.Need-overflow-add-n-2
+add-n-2 c = search rules
 
 returns : tie.Need-returns
-returns c = rw (lt-ltb _ _ (c .if1 .taken))
+returns c = rw (lt-ltb _ _ c.if1.true)
 
-cast-result : tie.Need-cast-result
-cast-result c = search needs
+cast-result : tie.Need-overflow-cast-result
+cast-result c = search rules
 
 returns-2 : tie.Need-returns-2
-returns-2 c = rw (le-ltb _ _ (c .if1 .left))
+returns-2 c = rw (le-ltb _ _ c.if1.false)
 
 pub claim-spec : {M : Type 1} → statement M
 claim-spec = tie.close (tie.spec mul-n add-n add-n-2 returns cast-result returns-2)

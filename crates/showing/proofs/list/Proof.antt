@@ -1,46 +1,46 @@
 -- `list` writes the header before the rows. Assumes nothing.
 use native.Mathlib.Omega.{arith}
-use Rattle·showing·proofs.proofs.Listing.{headed, listed}
-use borrow.Author.Needs.{needs}
-use Rattle·showing·proofs.proofs.list.Statement.{statement}
-use Rattle·showing·proofs.proofs.list.Tie as tie
+use Rattle.showing.proofs.Listing.{headed, listed}
+use borrow.Author.Rules.{rules}
+use Rattle.showing.proofs.list.Statement.{statement}
+use Rattle.showing.proofs.list.Tie as tie
 
-sub-decide : tie.Need-sub-decide
-sub-decide c = search needs
+sub-decide : tie.Need-overflow-sub-decide
+sub-decide c = search rules
 
-part-decide-start : tie.Need-part-decide-start
-part-decide-start c = search needs
+part-decide-start : tie.Need-slice-bounds-decide-start
+part-decide-start c = search rules
 
-part-decide-end : tie.Need-part-decide-end
-part-decide-end c = search needs
+part-decide-end : tie.Need-slice-bounds-decide-end
+part-decide-end c = search rules
 
 decide-requires : tie.Need-decide-requires
-decide-requires c κs = search needs
+decide-requires c κs = search rules
 
 octet-at-requires : tie.Need-octet-at-requires
-octet-at-requires c κs = search needs
+octet-at-requires c κs = search rules
 
-cast-typ : tie.Need-cast-typ
-cast-typ c = search needs
+cast-typ : tie.Need-overflow-cast-typ
+cast-typ c = search rules
 
 narrow-requires : tie.Need-narrow-requires
-narrow-requires c κs = search needs
+narrow-requires c κs = search rules
 
 write-header-requires : tie.Need-write-header-requires
 write-header-requires c κs =
-    let s = c .before .before .before .before .before .before .before .before .before .before .before .before .before in
-    headed (s .args .table .now) (s .pre .0) (s .args .kind) (s .args .message .now) (c .before .before .before .before .before .before .before .decide .ensures)
+    let s = c.before.before.before.before.before.before.before.before.before.before.before.before.before in
+    headed s.args.table.now s.requires.0 s.args.kind s.args.message.now c.before.before.before.before.before.before.before.decide.ensures
 
-same-length : tie.Need-same-length
-same-length c = search needs
+same_length : tie.Need-same-length
+same_length c = search rules
 
 same-length-2 : tie.Need-same-length-2
-same-length-2 c = search needs
+same-length-2 c = search rules
 
 returns : tie.Need-returns
 returns c =
-    let s = c .before .before .before .before .before .before .before .before .before .before .before .before .before .before .before .before .before in
-    listed (s .args .table .now) (s .pre .0) (s .args .kind) (s .args .message .now) (c .before .before .before .before .before .before .before .before .before .before .before .decide .ensures) (s .pre .1) (c .before .before .before .before .before .before .octet-at .ensures) (c .before .before .before .before .before .narrow .ensures) (c .before .before .before .write-header .ensures)
+    let s = c.before.before.before.before.before.before.before.before.before.before.before.before.before.before.before.before.before in
+    listed s.args.table.now s.requires.0 s.args.kind s.args.message.now c.before.before.before.before.before.before.before.before.before.before.before.decide.ensures s.requires.1 c.before.before.before.before.before.before.octet-at.ensures c.before.before.before.before.before.narrow.ensures c.before.before.before.write-header.ensures
 
 pub list-spec : {M : Type 1} → statement M
 list-spec =
@@ -54,6 +54,6 @@ list-spec =
     cast-typ
     narrow-requires
     write-header-requires
-    same-length
+    same_length
     same-length-2
     returns)

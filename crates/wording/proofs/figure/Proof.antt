@@ -1,14 +1,14 @@
 -- `figure` is computed as the contract says. Assumes nothing.
 use mathlib.Core.Path.{refl}
-use borrow.Author.Needs.{needs}
-use Rattle·wording·proofs.proofs.figure.Statement.{statement}
-use Rattle·wording·proofs.proofs.figure.Tie as tie
+use borrow.Author.Rules.{rules}
+use Rattle.wording.proofs.figure.Statement.{statement}
+use Rattle.wording.proofs.figure.Tie as tie
 
-add-result : tie.Need-add-result
-add-result c = search needs
+add-result : tie.Need-overflow-add-result
+add-result c = search rules
 
-cast-result : tie.Need-cast-result
-cast-result c = search needs
+cast-result : tie.Need-overflow-cast-result
+cast-result c = search rules
 
 returns : tie.Need-returns
 returns c = refl

@@ -1,28 +1,28 @@
 -- `hex` puts one digit after the other. Assumes nothing.
-use Rattle·wording·specs.specs.Pieces.{hex}
-use Rattle·wording·proofs.proofs.Puts.{then-puts}
-use borrow.Author.Needs.{needs}
-use Rattle·wording·proofs.proofs.hex.Statement.{statement}
-use Rattle·wording·proofs.proofs.hex.Tie as tie
+use Rattle.wording.specs.Pieces.{hex}
+use Rattle.wording.proofs.Puts.{then-puts}
+use borrow.Author.Rules.{rules}
+use Rattle.wording.proofs.hex.Statement.{statement}
+use Rattle.wording.proofs.hex.Tie as tie
 
 hex-digit-requires : tie.Need-hex-digit-requires
-hex-digit-requires c κs = search needs
+hex-digit-requires c κs = search rules
 
 hex-digit-requires-2 : tie.Need-hex-digit-requires-2
-hex-digit-requires-2 c κs = search needs
+hex-digit-requires-2 c κs = search rules
 
 put-requires : tie.Need-put-requires
-put-requires c κs = search needs
+put-requires c κs = search rules
 
 put-requires-2 : tie.Need-put-requires-2
-put-requires-2 c κs = search needs
+put-requires-2 c κs = search rules
 
-same-length : tie.Need-same-length
-same-length c = search needs
+same_length : tie.Need-same-length
+same_length c = search rules
 
 returns : tie.Need-returns
 unfolding hex
-returns c = rw (← c .before .before .before .before .before .before .before .before .hex-digit2 .ensures, ← c .before .before .before .before .before .before .before .before .before .hex-digit .ensures) (then-puts (c .before .before .before .before .before .before .put .ensures) (c .before .before .put2 .ensures))
+returns c = rw (← c.before.before.before.before.before.before.before.before.hex-digit2.ensures, ← c.before.before.before.before.before.before.before.before.before.hex-digit.ensures) (then-puts c.before.before.before.before.before.before.put.ensures c.before.before.put2.ensures)
 
 pub hex-spec : {M : Type 1} → statement M
-hex-spec = tie.close (tie.spec hex-digit-requires hex-digit-requires-2 put-requires put-requires-2 same-length returns)
+hex-spec = tie.close (tie.spec hex-digit-requires hex-digit-requires-2 put-requires put-requires-2 same_length returns)

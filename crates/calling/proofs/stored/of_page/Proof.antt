@@ -2,39 +2,39 @@
 use mathlib.Core.Path.{sym, ap}
 use native.Mathlib.Omega.{arith}
 use lib.ListN.{length}
-use Rattle·calling·proofs.proofs.Held.{held}
-use borrow.Author.Needs.{needs}
-use Rattle·calling·proofs.proofs.stored.of_page.Statement.{statement}
-use Rattle·calling·proofs.proofs.stored.of_page.Tie as tie
+use Rattle.calling.proofs.Held.{held}
+use borrow.Author.Rules.{rules}
+use Rattle.calling.proofs.stored.of_page.Statement.{statement}
+use Rattle.calling.proofs.stored.of_page.Tie as tie
 
 page-requires : tie.Need-page-requires
-page-requires c κs = search needs
+page-requires c κs = search rules
 
 slice-aggregate-copy-octets : tie.Need-slice-aggregate-copy-octets
-slice-aggregate-copy-octets c = search needs
+slice-aggregate-copy-octets c = search rules
 
 copy-octets-requires : tie.Need-copy-octets-requires
-copy-octets-requires c κs = search needs
+copy-octets-requires c κs = search rules
 
 array-share-prefix-page : tie.Need-array-share-prefix-page
-array-share-prefix-page c = search needs
+array-share-prefix-page c = search rules
 
 slice-aggregate-by-few : tie.Need-slice-aggregate-by-few
-slice-aggregate-by-few c = let s = c .before .before .before .before .before .before .before .before in sym (ap length (held (s .args .message .now) (c .before .before .before .before .page .result) (omega (arith, s .pre, c .before .before .before .before .page .ensures .size)) (c .before .before .copy-octets .ensures)))
+slice-aggregate-by-few c = let s = c.before.before.before.before.before.before.before.before in sym (ap length (held s.args.message.now c.before.before.before.before.page.result (omega (arith, s.requires, c.before.before.before.before.page.ensures.size)) c.before.before.copy-octets.ensures))
 
 by-few-requires : tie.Need-by-few-requires
-by-few-requires c κs = search needs
+by-few-requires c κs = search rules
 
-same-length : tie.Need-same-length
-same-length c = search needs
+same_length : tie.Need-same-length
+same_length c = search rules
 
 same-length-2 : tie.Need-same-length-2
-same-length-2 c = search needs
+same-length-2 c = search rules
 
 returns : tie.Need-returns
 returns c =
-    let s = c .before .before .before .before .before .before .before .before .before .before .before .before .before .before .before in
-    rw (held (s .args .message .now) (c .before .before .before .before .before .before .before .before .before .before .before .page .result) (omega (arith, s .pre, c .before .before .before .before .before .before .before .before .before .before .before .page .ensures .size)) (c .before .before .before .before .before .before .before .before .before .copy-octets .ensures)) at (c .before .before .before .before .by-few .ensures)
+    let s = c.before.before.before.before.before.before.before.before.before.before.before.before.before.before.before in
+    rw (held s.args.message.now c.before.before.before.before.before.before.before.before.before.before.before.page.result (omega (arith, s.requires, c.before.before.before.before.before.before.before.before.before.before.before.page.ensures.size)) c.before.before.before.before.before.before.before.before.before.copy-octets.ensures) at c.before.before.before.before.by-few.ensures
 
 pub of-page-spec : {M : Type 1} → statement M
 of-page-spec =
@@ -46,6 +46,6 @@ of-page-spec =
     array-share-prefix-page
     slice-aggregate-by-few
     by-few-requires
-    same-length
+    same_length
     same-length-2
     returns)

@@ -1,47 +1,47 @@
 -- `text::number` is safe and ends: the measure is what is left of the digits. Assumes nothing.
-use Prim.Native.Nat.{_-_}
-use borrow.Author.Needs.{needs}
+use Prim.Native.Nat.{◌-◌}
+use borrow.Author.Rules.{rules}
 use lib.ListN.{length}
-use Rattle·lookups·proofs.proofs.text.number.Statement.{statement}
-use Rattle·lookups·proofs.proofs.text.number.Tie as tie
+use Rattle.lookups.proofs.text.number.Statement.{statement}
+use Rattle.lookups.proofs.text.number.Tie as tie
 
-abbrev Inv-loop : tie.InvT-loop
-Inv-loop digits value₀ at₀ value at = Unit {0}
+abbrev invariant-loop : tie.invariant-loop
+invariant-loop digits value₀ at₀ value at = Unit {0}
 
-abbrev μ-loop : tie.MeasureT-loop
-μ-loop digits value₀ at₀ value at = length digits - at
+abbrev decreases-loop : tie.decreases-loop
+decreases-loop digits value₀ at₀ value at = length digits - at
 
-loop-holds : tie.Need-loop-holds Inv-loop μ-loop
-loop-holds c = search needs
+loop-holds : tie.Need-loop-init invariant-loop decreases-loop
+loop-holds c = search rules
 
-shared-slice-read-shifted : tie.Need-shared-slice-read-shifted Inv-loop μ-loop
-shared-slice-read-shifted c = search needs
+shared-slice-read-shifted : tie.Need-shared-slice-read-shifted invariant-loop decreases-loop
+shared-slice-read-shifted c = search rules
 
-shifted-requires : tie.Need-shifted-requires Inv-loop μ-loop
-shifted-requires c κs = search needs
+shifted-requires : tie.Need-shifted-requires invariant-loop decreases-loop
+shifted-requires c κs = search rules
 
-add-at : tie.Need-add-at Inv-loop μ-loop
-add-at c = search needs
+add_at : tie.Need-overflow-add-at invariant-loop decreases-loop
+add_at c = search rules
 
-loop-less : tie.Need-loop-less Inv-loop μ-loop
-loop-less c = search needs
+loop-less : tie.Need-loop-smaller invariant-loop decreases-loop
+loop-less c = search rules
 
-loop-again : tie.Need-loop-again Inv-loop μ-loop
-loop-again c = search needs
+loop-again : tie.Need-loop-preserved invariant-loop decreases-loop
+loop-again c = search rules
 
-returns : tie.Need-returns Inv-loop μ-loop
-returns c = search needs
+returns : tie.Need-returns invariant-loop decreases-loop
+returns c = search rules
 
 pub number-spec : {M : Type 1} → statement M
 number-spec =
     tie.close
     (tie.spec
-    Inv-loop
-    μ-loop
+    invariant-loop
+    decreases-loop
     loop-holds
     shared-slice-read-shifted
     shifted-requires
-    add-at
+    add_at
     loop-less
     loop-again
     returns)

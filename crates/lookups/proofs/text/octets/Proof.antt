@@ -1,76 +1,76 @@
 -- `text::octets` meets its contract: no more octets are laid down than there are pairs of digits, or room. Assumes nothing.
-use mathlib.Core.Path.{_≡_}
-use Prim.Native.Nat.{_*_, _-_, _≤_}
+use mathlib.Core.Path.{◌≡◌}
+use Prim.Native.Nat.{◌*◌, ◌-◌, ◌≤◌}
 use native.Mathlib.Omega.{arith}
-use borrow.Author.Needs.{needs}
+use borrow.Author.Rules.{rules}
 use lib.ListN.{length}
-use Rattle·lookups·proofs.proofs.Counts.{counts}
-use Rattle·lookups·proofs.proofs.text.octets.Statement.{statement}
-use Rattle·lookups·proofs.proofs.text.octets.Tie as tie
+use Rattle.lookups.proofs.Counts.{counts}
+use Rattle.lookups.proofs.text.octets.Statement.{statement}
+use Rattle.lookups.proofs.text.octets.Tie as tie
 
-abbrev Inv-loop : tie.InvT-loop
-Inv-loop digits room₀ count n₀ room n = (length room ≡ length room₀) × (count ≤ length room₀) × (2 * count ≤ length digits) × (n ≤ count)
+abbrev invariant-loop : tie.invariant-loop
+invariant-loop digits room₀ count n₀ room n = (length room ≡ length room₀) × (count ≤ length room₀) × (2 * count ≤ length digits) × (n ≤ count)
 
-abbrev μ-loop : tie.MeasureT-loop
-μ-loop digits room₀ count n₀ room n = count - n
+abbrev decreases-loop : tie.decreases-loop
+decreases-loop digits room₀ count n₀ room n = count - n
 
-least-requires : tie.Need-least-requires Inv-loop μ-loop
-least-requires c κs = search needs
+least-requires : tie.Need-least-requires invariant-loop decreases-loop
+least-requires c κs = search rules
 
-loop-holds : tie.Need-loop-holds Inv-loop μ-loop
-loop-holds c = search needs
+loop-holds : tie.Need-loop-init invariant-loop decreases-loop
+loop-holds c = search rules
 
-mul-nibble : tie.Need-mul-nibble Inv-loop μ-loop
-mul-nibble c = search needs
+mul-nibble : tie.Need-overflow-mul-nibble invariant-loop decreases-loop
+mul-nibble c = search rules
 
-shared-slice-read-nibble : tie.Need-shared-slice-read-nibble Inv-loop μ-loop
-shared-slice-read-nibble c = search needs
+shared-slice-read-nibble : tie.Need-shared-slice-read-nibble invariant-loop decreases-loop
+shared-slice-read-nibble c = search rules
 
-nibble-requires : tie.Need-nibble-requires Inv-loop μ-loop
-nibble-requires c κs = search needs
+nibble-requires : tie.Need-nibble-requires invariant-loop decreases-loop
+nibble-requires c κs = search rules
 
-mul-room : tie.Need-mul-room Inv-loop μ-loop
-mul-room c = search needs
+mul-room : tie.Need-overflow-mul-room invariant-loop decreases-loop
+mul-room c = search rules
 
-mul-nibble-2 : tie.Need-mul-nibble-2 Inv-loop μ-loop
-mul-nibble-2 c = search needs
+mul-nibble-2 : tie.Need-overflow-mul-nibble-2 invariant-loop decreases-loop
+mul-nibble-2 c = search rules
 
-add-nibble : tie.Need-add-nibble Inv-loop μ-loop
-add-nibble c = search needs
+add-nibble : tie.Need-overflow-add-nibble invariant-loop decreases-loop
+add-nibble c = search rules
 
-shared-slice-read-nibble-2 : tie.Need-shared-slice-read-nibble-2 Inv-loop μ-loop
-shared-slice-read-nibble-2 c = search needs
+shared-slice-read-nibble-2 : tie.Need-shared-slice-read-nibble-2 invariant-loop decreases-loop
+shared-slice-read-nibble-2 c = search rules
 
-nibble-requires-2 : tie.Need-nibble-requires-2 Inv-loop μ-loop
-nibble-requires-2 c κs = search needs
+nibble-requires-2 : tie.Need-nibble-requires-2 invariant-loop decreases-loop
+nibble-requires-2 c κs = search rules
 
-add-room : tie.Need-add-room Inv-loop μ-loop
-add-room c = search needs
+add-room : tie.Need-overflow-add-room invariant-loop decreases-loop
+add-room c = search rules
 
-slice-write-room : tie.Need-slice-write-room Inv-loop μ-loop
-slice-write-room c = search needs
+slice-write-room : tie.Need-slice-write-room invariant-loop decreases-loop
+slice-write-room c = search rules
 
-add-n : tie.Need-add-n Inv-loop μ-loop
-add-n c = search needs
+add-n : tie.Need-overflow-add-n invariant-loop decreases-loop
+add-n c = search rules
 
-loop-less : tie.Need-loop-less Inv-loop μ-loop
-loop-less c = search needs
+loop-less : tie.Need-loop-smaller invariant-loop decreases-loop
+loop-less c = search rules
 
-loop-again : tie.Need-loop-again Inv-loop μ-loop
-loop-again c = search needs
+loop-again : tie.Need-loop-preserved invariant-loop decreases-loop
+loop-again c = search rules
 
-same-length : tie.Need-same-length Inv-loop μ-loop
-same-length c = search needs
+same_length : tie.Need-same-length invariant-loop decreases-loop
+same_length c = search rules
 
-returns : tie.Need-returns Inv-loop μ-loop
+returns : tie.Need-returns invariant-loop decreases-loop
 returns c = counts _ _ (omega arith)
 
 pub octets-spec : {M : Type 1} → statement M
 octets-spec =
     tie.close
     (tie.spec
-    Inv-loop
-    μ-loop
+    invariant-loop
+    decreases-loop
     least-requires
     loop-holds
     mul-nibble
@@ -86,5 +86,5 @@ octets-spec =
     add-n
     loop-less
     loop-again
-    same-length
+    same_length
     returns)

@@ -1,57 +1,57 @@
 -- `find` passes over the texts of other keys. Assumes nothing.
-use Prim.Native.Nat.{_-_}
+use Prim.Native.Nat.{◌-◌}
 use native.Mathlib.Omega.{arith}
 use lib.ListN.{length}
-use borrow.Author.Needs.{needs}
-use Rattle·phrases·proofs.proofs.Search.{Seeking, seek-start, seek-hit, seek-next, seek-end}
-use Rattle·phrases·proofs.proofs.finding.find.Statement.{statement}
-use Rattle·phrases·proofs.proofs.finding.find.Tie as tie
+use borrow.Author.Rules.{rules}
+use Rattle.phrases.proofs.Search.{Seeking, seek-start, seek_hit, seek-next, seek-end}
+use Rattle.phrases.proofs.finding.find.Statement.{statement}
+use Rattle.phrases.proofs.finding.find.Tie as tie
 
-abbrev Inv-loop : tie.InvT-loop
-Inv-loop keys lengths key rest start₀ n₀ start n = Seeking keys lengths key rest start n
+abbrev invariant-loop : tie.invariant-loop
+invariant-loop keys lengths key rest start₀ n₀ start n = Seeking keys lengths key rest start n
 
-abbrev μ-loop : tie.MeasureT-loop
-μ-loop keys lengths key rest start₀ n₀ start n = length keys - n
+abbrev decreases-loop : tie.decreases-loop
+decreases-loop keys lengths key rest start₀ n₀ start n = length keys - n
 
-loop-holds : tie.Need-loop-holds Inv-loop μ-loop
+loop-holds : tie.Need-loop-init invariant-loop decreases-loop
 loop-holds c = seek-start
 
-length-at-requires : tie.Need-length-at-requires Inv-loop μ-loop
+length-at-requires : tie.Need-length-at-requires invariant-loop decreases-loop
 length-at-requires c κs = tt
 
-add-end : tie.Need-add-end Inv-loop μ-loop
-add-end c = omega (arith, c .before .before .loop .inv .low, c .length-at .ensures .low, c .before .before .before .before .before .pre)
+add-end : tie.Need-overflow-add-end invariant-loop decreases-loop
+add-end c = omega (arith, c.before.before.loop.invariant.low, c.length_at.ensures.low, c.before.before.before.before.before.requires)
 
-mul-is-one : tie.Need-mul-is-one Inv-loop μ-loop
-mul-is-one c = search needs
+mul-is-one : tie.Need-overflow-mul-is-one invariant-loop decreases-loop
+mul-is-one c = search rules
 
-shared-slice-read-is-one : tie.Need-shared-slice-read-is-one Inv-loop μ-loop
-shared-slice-read-is-one c = c .before .before .loop-test .taken
+shared-slice-read-is-one : tie.Need-shared-slice-read-is-one invariant-loop decreases-loop
+shared-slice-read-is-one c = c.before.before.loop-test.true
 
-is-one-requires : tie.Need-is-one-requires Inv-loop μ-loop
+is-one-requires : tie.Need-is-one-requires invariant-loop decreases-loop
 is-one-requires c κs = tt
 
-returns : tie.Need-returns Inv-loop μ-loop
-returns c = seek-hit (c .before .before .before .before .before .loop .inv) (c .before .before .before .before .loop-test .taken) (c .before .before .before .length-at .ensures) (c .before .is-one .ensures) (c .if1 .taken)
+returns : tie.Need-returns invariant-loop decreases-loop
+returns c = seek_hit c.before.before.before.before.before.loop.invariant c.before.before.before.before.loop-test.true c.before.before.before.length_at.ensures c.before.is_one.ensures c.if1.true
 
-add-n : tie.Need-add-n Inv-loop μ-loop
+add-n : tie.Need-overflow-add-n invariant-loop decreases-loop
 add-n c = omega arith
 
-loop-less : tie.Need-loop-less Inv-loop μ-loop
+loop-less : tie.Need-loop-smaller invariant-loop decreases-loop
 loop-less c = omega arith
 
-loop-again : tie.Need-loop-again Inv-loop μ-loop
-loop-again c = seek-next (c .before .before .before .before .before .loop .inv) (c .before .before .before .before .loop-test .taken) (c .before .before .before .length-at .ensures) (c .before .is-one .ensures) (c .if1 .left)
+loop-again : tie.Need-loop-preserved invariant-loop decreases-loop
+loop-again c = seek-next c.before.before.before.before.before.loop.invariant c.before.before.before.before.loop-test.true c.before.before.before.length_at.ensures c.before.is_one.ensures c.if1.false
 
-returns-2 : tie.Need-returns-2 Inv-loop μ-loop
-returns-2 c = seek-end (c .before .loop .inv) (c .loop-test .left)
+returns-2 : tie.Need-returns-2 invariant-loop decreases-loop
+returns-2 c = seek-end c.before.loop.invariant c.loop-test.false
 
-pub find-spec : {M : Type 1} → statement M
-find-spec =
+pub find_spec : {M : Type 1} → statement M
+find_spec =
     tie.close
     (tie.spec
-    Inv-loop
-    μ-loop
+    invariant-loop
+    decreases-loop
     loop-holds
     length-at-requires
     add-end

@@ -1,9 +1,9 @@
 -- `element` is the entry without the blanks at its end. Assumes nothing.
-use mathlib.Core.Path.{sym, ap, _∙_}
+use mathlib.Core.Path.{sym, ap, ◌∙◌}
 use lib.Seq.{length-take-le}
-use Rattle·phrases·specs.specs.Names.{trimmed, elementName}
-use Rattle·phrases·proofs.proofs.names.element.Statement.{statement}
-use Rattle·phrases·proofs.proofs.names.element.Tie as tie
+use Rattle.phrases.specs.Names.{trimmed, element_name}
+use Rattle.phrases.proofs.names.element.Statement.{statement}
+use Rattle.phrases.proofs.names.element.Tie as tie
 
 entry-requires : tie.Need-entry-requires
 entry-requires c κs = tt
@@ -12,11 +12,11 @@ ended-requires : tie.Need-ended-requires
 ended-requires c κs = tt
 
 slice-aggregate-result : tie.Need-slice-aggregate-result
-slice-aggregate-result c = sym (length-take-le (c .before .ended .result) (c .before .before .entry .result .now) (c .before .ended .ensures .within))
+slice-aggregate-result c = sym (length-take-le c.before.ended.result c.before.before.entry.result.now c.before.ended.ensures.within)
 
 returns : tie.Need-returns
-unfolding elementName
-returns c = c .before .ended .ensures .name ∙ ap trimmed (c .before .before .entry .ensures)
+unfolding element_name
+returns c = c.before.ended.ensures.name ∙ ap trimmed c.before.before.entry.ensures
 
 pub element-spec : {M : Type 1} → statement M
 element-spec = tie.close (tie.spec entry-requires ended-requires slice-aggregate-result returns)

@@ -1,20 +1,20 @@
 -- `narrow` by whether it fits. Assumes nothing.
 use borrow.Author.Tests.{lt-ltb, le-ltb}
-use Rattle·phrases·specs.specs.Sentences.{narrow}
-use borrow.Author.Needs.{needs}
-use Rattle·phrases·proofs.proofs.runs.narrow.Statement.{statement}
-use Rattle·phrases·proofs.proofs.runs.narrow.Tie as tie
+use Rattle.phrases.specs.Sentences.{narrow}
+use borrow.Author.Rules.{rules}
+use Rattle.phrases.proofs.runs.narrow.Statement.{statement}
+use Rattle.phrases.proofs.runs.narrow.Tie as tie
 
-cast-result : tie.Need-cast-result
-cast-result c = search needs
+cast-result : tie.Need-overflow-cast-result
+cast-result c = search rules
 
 returns : tie.Need-returns
 unfolding narrow
-returns c = rw (lt-ltb _ _ (c .if1 .taken))
+returns c = rw (lt-ltb _ _ c.if1.true)
 
 returns-2 : tie.Need-returns-2
 unfolding narrow
-returns-2 c = rw (le-ltb _ _ (c .if1 .left))
+returns-2 c = rw (le-ltb _ _ c.if1.false)
 
 pub narrow-spec : {M : Type 1} → statement M
 narrow-spec = tie.close (tie.spec cast-result returns returns-2)

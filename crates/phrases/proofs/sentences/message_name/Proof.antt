@@ -1,25 +1,25 @@
 -- `message_name` puts the text of the table. Assumes nothing.
-use borrow.Author.Needs.{needs}
-use Rattle·phrases·proofs.proofs.sentences.message_name.Statement.{statement}
-use Rattle·phrases·proofs.proofs.sentences.message_name.Tie as tie
+use borrow.Author.Rules.{rules}
+use Rattle.phrases.proofs.sentences.message_name.Statement.{statement}
+use Rattle.phrases.proofs.sentences.message_name.Tie as tie
 
 octets-requires : tie.Need-octets-requires
-octets-requires c κs = search needs
+octets-requires c κs = search rules
 
 slice-aggregate-text : tie.Need-slice-aggregate-text
-slice-aggregate-text c = search needs
+slice-aggregate-text c = search rules
 
 text-requires : tie.Need-text-requires
-text-requires c κs = search needs
+text-requires c κs = search rules
 
 copy-requires : tie.Need-copy-requires
-copy-requires c κs = search needs
+copy-requires c κs = search rules
 
-same-length : tie.Need-same-length
-same-length c = search needs
+same_length : tie.Need-same-length
+same_length c = search rules
 
 returns : tie.Need-returns
-returns c = rw (← c .before .before .before .before .text .ensures) (c .before .before .copy .ensures)
+returns c = rw (← c.before.before.before.before.text.ensures) c.before.before.copy.ensures
 
 pub message-name-spec : {M : Type 1} → statement M
-message-name-spec = tie.close (tie.spec octets-requires slice-aggregate-text text-requires copy-requires same-length returns)
+message-name-spec = tie.close (tie.spec octets-requires slice-aggregate-text text-requires copy-requires same_length returns)

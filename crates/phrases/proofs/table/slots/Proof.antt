@@ -1,8 +1,8 @@
 -- `slots` is the constant that is computed from the texts. Assumes nothing.
 use mathlib.Core.Path.{refl}
-use Rattle·phrases·specs.specs.Table.{slots}
-use Rattle·phrases·proofs.proofs.table.slots.Statement.{statement}
-use Rattle·phrases·proofs.proofs.table.slots.Tie as tie
+use Rattle.phrases.specs.Table.{slots}
+use Rattle.phrases.proofs.table.slots.Statement.{statement}
+use Rattle.phrases.proofs.table.slots.Tie as tie
 
 returns : tie.Need-returns
 unfolding slots

@@ -1,36 +1,36 @@
-use mathlib.Core.Path.{_≡_, _∙_}
-use borrow.Author.Tests.{eq-eqb, ne-eqb, lt-ltb, le-ltb}
-use Rattle·pieces·specs.specs.Coded.{checkTop}
-use borrow.Author.Needs.{needs}
-use Rattle·pieces·proofs.proofs.level.check_top.Statement.{statement}
-use Rattle·pieces·proofs.proofs.level.check_top.Tie as tie
+use mathlib.Core.Path.{◌≡◌, ◌∙◌}
+use borrow.Author.Tests.{eq-eqb, ne_eqb, lt-ltb, le-ltb}
+use Rattle.pieces.specs.Coded.{check_top}
+use borrow.Author.Rules.{rules}
+use Rattle.pieces.proofs.level.check_top.Statement.{statement}
+use Rattle.pieces.proofs.level.check_top.Tie as tie
 
 with-have-requires : tie.Need-with-have-requires
-with-have-requires c κs = search needs
+with-have-requires c κs = search rules
 
 returns : tie.Need-returns
-unfolding checkTop
-returns c = simp (eq-eqb _ _ (c .before .if1 .taken)) (c .with-have .ensures)
+unfolding check_top
+returns c = simp (eq-eqb _ _ c.before.if1.true) c.with-have.ensures
 
-sub-top : tie.Need-sub-top
-sub-top c = search needs
+sub-top : tie.Need-overflow-sub-top
+sub-top c = search rules
 
-mul-f : tie.Need-mul-f
-mul-f c = search needs
+mul-f : tie.Need-overflow-mul-f
+mul-f c = search rules
 
 element-copy-out-f : tie.Need-element-copy-out-f
-element-copy-out-f c = search needs
+element-copy-out-f c = search rules
 
 stop-requires : tie.Need-stop-requires
-stop-requires c κs = search needs
+stop-requires c κs = search rules
 
 returns-2 : tie.Need-returns-2
-unfolding checkTop
-returns-2 c = simp (ne-eqb _ _ (c .before .before .before .before .if1 .left), lt-ltb _ _ (c .before .if2 .taken)) (c .stop .ensures)
+unfolding check_top
+returns-2 c = simp (ne_eqb _ _ c.before.before.before.before.if1.false, lt-ltb _ _ c.before.if2.true) c.stop.ensures
 
 returns-3 : tie.Need-returns-3
-unfolding checkTop
-returns-3 c = simp (ne-eqb _ _ (c .before .before .before .if1 .left), le-ltb _ _ (c .if2 .left))
+unfolding check_top
+returns-3 c = simp (ne_eqb _ _ c.before.before.before.if1.false, le-ltb _ _ c.if2.false)
 
 pub check-top-spec : {M : Type 1} → statement M
 check-top-spec =

@@ -1,32 +1,32 @@
-use mathlib.Core.Path.{_≡_, refl, _∙_}
-use Rattle·pieces·specs.specs.Coded.{into}
-use borrow.Author.Needs.{needs}
-use Rattle·pieces·proofs.proofs.level.into.Statement.{statement}
-use Rattle·pieces·proofs.proofs.level.into.Tie as tie
+use mathlib.Core.Path.{◌≡◌, refl, ◌∙◌}
+use Rattle.pieces.specs.Coded.{into}
+use borrow.Author.Rules.{rules}
+use Rattle.pieces.proofs.level.into.Statement.{statement}
+use Rattle.pieces.proofs.level.into.Tie as tie
 
-sub-top : tie.Need-sub-top
-sub-top c = search needs
+sub-top : tie.Need-overflow-sub-top
+sub-top c = search rules
 
-mul-levels : tie.Need-mul-levels
-mul-levels c = search needs
+mul-levels : tie.Need-overflow-mul-levels
+mul-levels c = search rules
 
 array-set-from-levels : tie.Need-array-set-from-levels
-array-set-from-levels c = search needs
+array-set-from-levels c = search rules
 
-mul-levels-2 : tie.Need-mul-levels-2
-mul-levels-2 c = search needs
+mul-levels-2 : tie.Need-overflow-mul-levels-2
+mul-levels-2 c = search rules
 
 array-set-from-levels-2 : tie.Need-array-set-from-levels-2
-array-set-from-levels-2 c = search needs
+array-set-from-levels-2 c = search rules
 
 array-write-some : tie.Need-array-write-some
-array-write-some c = search needs
+array-write-some c = search rules
 
-add-t13 : tie.Need-add-t13
-add-t13 c = search needs
+add-t13 : tie.Need-overflow-add-t13
+add-t13 c = search rules
 
-add-t23 : tie.Need-add-t23
-add-t23 c = search needs
+add-t23 : tie.Need-overflow-add-t23
+add-t23 c = search rules
 
 returns : tie.Need-returns
 unfolding into

@@ -1,7 +1,7 @@
-use mathlib.Core.Path.{_≡_, refl, _∙_}
-use Rattle·pieces·specs.specs.Coded.{stop}
-use Rattle·pieces·proofs.proofs.level.stop.Statement.{statement}
-use Rattle·pieces·proofs.proofs.level.stop.Tie as tie
+use mathlib.Core.Path.{◌≡◌, refl, ◌∙◌}
+use Rattle.pieces.specs.Coded.{stop}
+use Rattle.pieces.proofs.level.stop.Statement.{statement}
+use Rattle.pieces.proofs.level.stop.Tie as tie
 
 returns : tie.Need-returns
 unfolding stop

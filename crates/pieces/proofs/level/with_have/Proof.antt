@@ -1,10 +1,10 @@
-use mathlib.Core.Path.{_≡_, refl, _∙_}
-use Rattle·pieces·specs.specs.Coded.{withHave}
-use Rattle·pieces·proofs.proofs.level.with_have.Statement.{statement}
-use Rattle·pieces·proofs.proofs.level.with_have.Tie as tie
+use mathlib.Core.Path.{◌≡◌, refl, ◌∙◌}
+use Rattle.pieces.specs.Coded.{with_have}
+use Rattle.pieces.proofs.level.with_have.Statement.{statement}
+use Rattle.pieces.proofs.level.with_have.Tie as tie
 
 returns : tie.Need-returns
-unfolding withHave
+unfolding with_have
 returns c = refl
 
 pub with-have-spec : {M : Type 1} → statement M

@@ -1,17 +1,17 @@
-use mathlib.Core.Path.{_≡_, refl, _∙_}
-use Rattle·pieces·specs.specs.Coded.{gatherBy}
-use borrow.Author.Needs.{needs}
-use Rattle·pieces·proofs.proofs.step.gather.Statement.{statement}
-use Rattle·pieces·proofs.proofs.step.gather.Tie as tie
+use mathlib.Core.Path.{◌≡◌, refl, ◌∙◌}
+use Rattle.pieces.specs.Coded.{gather_by}
+use borrow.Author.Rules.{rules}
+use Rattle.pieces.proofs.step.gather.Statement.{statement}
+use Rattle.pieces.proofs.step.gather.Tie as tie
 
 array-write-some : tie.Need-array-write-some
-array-write-some c = search needs
+array-write-some c = search rules
 
-add-t10 : tie.Need-add-t10
-add-t10 c = search needs
+add-t10 : tie.Need-overflow-add-t10
+add-t10 c = search rules
 
 returns : tie.Need-returns
-unfolding gatherBy
+unfolding gather_by
 returns c = refl
 
 pub gather-spec : {M : Type 1} → statement M

@@ -1,17 +1,17 @@
 -- `nothing` lends the first none of four octets. Assumes nothing.
-use mathlib.Core.Path.{_≡_, refl, _∙_}
-use borrow.Author.Needs.{needs}
-use Rattle·pieces·proofs.proofs.step.nothing.Statement.{statement}
-use Rattle·pieces·proofs.proofs.step.nothing.Tie as tie
+use mathlib.Core.Path.{◌≡◌, refl, ◌∙◌}
+use borrow.Author.Rules.{rules}
+use Rattle.pieces.proofs.step.nothing.Statement.{statement}
+use Rattle.pieces.proofs.step.nothing.Tie as tie
 
-sub-result : tie.Need-sub-result
-sub-result c = search needs
+sub-result : tie.Need-overflow-sub-result
+sub-result c = search rules
 
-part-result-start : tie.Need-part-result-start
-part-result-start c = search needs
+part-result-start : tie.Need-slice-bounds-result-start
+part-result-start c = search rules
 
-part-result-end : tie.Need-part-result-end
-part-result-end c = search needs
+part-result-end : tie.Need-slice-bounds-result-end
+part-result-end c = search rules
 
 returns : tie.Need-returns
 returns c = refl

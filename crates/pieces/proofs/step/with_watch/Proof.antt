@@ -1,10 +1,10 @@
-use mathlib.Core.Path.{_≡_, refl, _∙_}
-use Rattle·pieces·specs.specs.Coded.{withWatch}
-use Rattle·pieces·proofs.proofs.step.with_watch.Statement.{statement}
-use Rattle·pieces·proofs.proofs.step.with_watch.Tie as tie
+use mathlib.Core.Path.{◌≡◌, refl, ◌∙◌}
+use Rattle.pieces.specs.Coded.{with_watch}
+use Rattle.pieces.proofs.step.with_watch.Statement.{statement}
+use Rattle.pieces.proofs.step.with_watch.Tie as tie
 
 returns : tie.Need-returns
-unfolding withWatch
+unfolding with_watch
 returns c = refl
 
 pub with-watch-spec : {M : Type 1} → statement M

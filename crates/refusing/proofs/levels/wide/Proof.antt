@@ -1,10 +1,10 @@
 -- `wide` is the number. Assumes nothing.
-use borrow.Author.Needs.{needs}
-use Rattle·refusing·proofs.proofs.levels.wide.Statement.{statement}
-use Rattle·refusing·proofs.proofs.levels.wide.Tie as tie
+use borrow.Author.Rules.{rules}
+use Rattle.refusing.proofs.levels.wide.Statement.{statement}
+use Rattle.refusing.proofs.levels.wide.Tie as tie
 
 returns : tie.Need-returns
-returns c = search needs
+returns c = search rules
 
-pub wide-spec : {M : Type 1} → statement M
-wide-spec = tie.close (tie.spec returns)
+pub wide_spec : {M : Type 1} → statement M
+wide_spec = tie.close (tie.spec returns)

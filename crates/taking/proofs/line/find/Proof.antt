@@ -1,109 +1,109 @@
 -- `line::find` meets its contract. The invariant: none of the lines passed lists the pair, so the search goes on from line n.
 -- Assumes nothing.
-use mathlib.Core.Path.{_≡_, sym, _∙_}
+use mathlib.Core.Path.{◌≡◌, sym, ◌∙◌}
 use mathlib.Core.Bool.{Bool, true, false}
 use mathlib.Core.List.{List}
-use Prim.Native.Nat.{ℕ, suc, _+_, _-_, _≤_, _<_}
+use Prim.Native.Nat.{ℕ, suc, ◌+◌, ◌-◌, ◌≤◌, ◌<◌}
 use native.Mathlib.Numerals.{add-one}
 use native.Mathlib.Omega.{arith}
-use borrow.Author.Needs.{needs}
-use lib.ListN.{length, getD, drop}
+use borrow.Author.Rules.{rules}
+use lib.ListN.{length, get_or, drop}
 use lib.Seq.{drop-cons, drop-length}
-use Rattle·rules.specs.Listings.{anyInstance, book, noLine, lists, seek, listing}
-use Rattle·listings.specs.Data.{keyOf, listsIn}
-use Rattle·taking·specs.specs.Lent.{Seeks, Found}
-use Rattle·taking·proofs.proofs.Lent.{count, small, line, lists-at}
-use Rattle·taking·proofs.proofs.line.find.Statement.{statement}
-use Rattle·taking·proofs.proofs.line.find.Tie as tie
+use Rattle.rules.specs.Listings.{any_instance, book, empty_line, lists, seek, listing}
+use Rattle.listings.specs.Data.{key_of, lists_in}
+use Rattle.taking.specs.Lent.{Seeks, Found}
+use Rattle.taking.proofs.Lent.{count, small, line, lists_at}
+use Rattle.taking.proofs.line.find.Statement.{statement}
+use Rattle.taking.proofs.line.find.Tie as tie
 
 -- what a turn knows
 record Searching (k v : ℕ) (xs : List ℕ) (t i own any n : ℕ) : Type 0 where
   seeks : Seeks k v xs i
-  own-is : own ≡ keyOf t i
-  any-is : any ≡ keyOf t anyInstance
+  own_is : own ≡ key_of t i
+  any_is : any ≡ key_of t any_instance
   most : n ≤ length xs
   goes : seek (listing book v) k t i ≡ n + seek (drop n (listing book v)) k t i
 
 module _ {k v : ℕ} {xs : List ℕ} {t i own any n : ℕ} (s : Searching k v xs t i own any n) where
   -- the test of the code is that of the listing
-  test-is : (h : n < length xs) → {r : Bool} → r ≡ listsIn k own any (getD xs n 0) → r ≡ lists k t i (getD (listing book v) n noLine)
-  test-is h e = e ∙ rw (s .own-is, s .any-is) (lists-at (s .seeks .lent) h t i (s .seeks .inst))
+  test-is : (h : n < length xs) → {r : Bool} → r ≡ lists_in k own any (get_or xs n 0) → r ≡ lists k t i (get_or (listing book v) n empty_line)
+  test-is h e = e ∙ rw (s.own_is, s.any_is) (lists_at s.seeks.lent h t i s.seeks.inst)
 
-  at-own : n < length xs → {r : Bool} → r ≡ listsIn k own any (getD xs n 0) → r ≡ true → Found k v t i n
+  at_own : n < length xs → {r : Bool} → r ≡ lists_in k own any (get_or xs n 0) → r ≡ true → Found k v t i n
   unfolding seek
-  at-own h e y =
-      let here : seek (drop n (listing book v)) k t i ≡ 0 = rw (drop-cons (listing book v) n noLine (line (s .seeks .lent) h), sym (test-is h e) ∙ y) in
-      record { is = omega (arith, s .goes, here); most = omega (arith, count (s .seeks .lent)) }
+  at_own h e y =
+      let here : seek (drop n (listing book v)) k t i ≡ 0 = rw (drop-cons (listing book v) n empty_line (line s.seeks.lent h), sym (test-is h e) ∙ y) in
+      record { is = omega (arith, s.goes, here); most = omega (arith, count s.seeks.lent) }
 
   at-end : length xs ≤ n → Found k v t i n
   unfolding seek
   at-end h =
-      let n-is : n ≡ length (listing book v) = omega (arith, count (s .seeks .lent), s .most) in
+      let n-is : n ≡ length (listing book v) = omega (arith, count s.seeks.lent, s.most) in
       let none : seek (drop n (listing book v)) k t i ≡ 0 = rw (n-is, drop-length (listing book v)) in
-      record { is = omega (arith, s .goes, none); most = omega arith }
+      record { is = omega (arith, s.goes, none); most = omega arith }
 
-  turned : n < length xs → {r : Bool} → r ≡ listsIn k own any (getD xs n 0) → r ≡ false → Searching k v xs t i own any (n + 1)
+  turned : n < length xs → {r : Bool} → r ≡ lists_in k own any (get_or xs n 0) → r ≡ false → Searching k v xs t i own any (n + 1)
   unfolding seek
   turned h e y =
-      let on : seek (drop n (listing book v)) k t i ≡ suc (seek (drop (suc n) (listing book v)) k t i) = rw (drop-cons (listing book v) n noLine (line (s .seeks .lent) h), sym (test-is h e) ∙ y) in record {
-        seeks = s .seeks;
-        own-is = s .own-is;
-        any-is = s .any-is;
+      let on : seek (drop n (listing book v)) k t i ≡ suc (seek (drop (suc n) (listing book v)) k t i) = rw (drop-cons (listing book v) n empty_line (line s.seeks.lent h), sym (test-is h e) ∙ y) in record {
+        seeks = s.seeks;
+        own_is = s.own_is;
+        any_is = s.any_is;
         most = omega arith;
-        goes = rw add-one (omega (arith, s .goes, on));
+        goes = rw add-one (omega (arith, s.goes, on));
       }
 
-abbrev Inv-loop : tie.InvT-loop
-Inv-loop kind level lines typ inst any own n₀ n = Searching kind level lines typ inst own any n
+abbrev invariant-loop : tie.invariant-loop
+invariant-loop kind level lines typ inst any own n₀ n = Searching kind level lines typ inst own any n
 
-abbrev μ-loop : tie.MeasureT-loop
-μ-loop kind level lines typ inst any own n₀ n = length lines - n
+abbrev decreases-loop : tie.decreases-loop
+decreases-loop kind level lines typ inst any own n₀ n = length lines - n
 
-mul-any : tie.Need-mul-any Inv-loop μ-loop
+mul-any : tie.Need-overflow-mul-any invariant-loop decreases-loop
 mul-any c = omega arith
 
-add-any : tie.Need-add-any Inv-loop μ-loop
+add-any : tie.Need-overflow-add-any invariant-loop decreases-loop
 add-any c = omega arith
 
-mul-own : tie.Need-mul-own Inv-loop μ-loop
+mul-own : tie.Need-overflow-mul-own invariant-loop decreases-loop
 mul-own c = omega arith
 
-add-own : tie.Need-add-own Inv-loop μ-loop
+add-own : tie.Need-overflow-add-own invariant-loop decreases-loop
 add-own c = omega arith
 
-loop-holds : tie.Need-loop-holds Inv-loop μ-loop
-loop-holds c = record { seeks = c .before .pre; own-is = omega arith; any-is = omega arith; most = omega arith; goes = omega arith }
+loop-holds : tie.Need-loop-init invariant-loop decreases-loop
+loop-holds c = record { seeks = c.before.requires; own_is = omega arith; any_is = omega arith; most = omega arith; goes = omega arith }
 
-mul-lists : tie.Need-mul-lists Inv-loop μ-loop
-mul-lists c = omega (arith, small (c .before .loop .inv .seeks .lent))
+mul-lists : tie.Need-overflow-mul-lists invariant-loop decreases-loop
+mul-lists c = omega (arith, small c.before.loop.invariant.seeks.lent)
 
-shared-slice-read-lists : tie.Need-shared-slice-read-lists Inv-loop μ-loop
-shared-slice-read-lists c = c .before .loop-test .taken
+shared-slice-read-lists : tie.Need-shared-slice-read-lists invariant-loop decreases-loop
+shared-slice-read-lists c = c.before.loop-test.true
 
-lists-requires : tie.Need-lists-requires Inv-loop μ-loop
-lists-requires c κs = search needs
+lists-requires : tie.Need-lists-requires invariant-loop decreases-loop
+lists-requires c κs = search rules
 
-returns : tie.Need-returns Inv-loop μ-loop
-returns c = let l = c .before .before .before in at-own (l .before .loop .inv) (l .loop-test .taken) (c .before .lists .ensures) (c .if1 .taken)
+returns : tie.Need-returns invariant-loop decreases-loop
+returns c = let l = c.before.before.before in at_own l.before.loop.invariant l.loop-test.true c.before.lists.ensures c.if1.true
 
-add-n : tie.Need-add-n Inv-loop μ-loop
-add-n c = omega (arith, small (c .before .before .before .before .loop .inv .seeks .lent))
+add-n : tie.Need-overflow-add-n invariant-loop decreases-loop
+add-n c = omega (arith, small c.before.before.before.before.loop.invariant.seeks.lent)
 
-loop-less : tie.Need-loop-less Inv-loop μ-loop
+loop-less : tie.Need-loop-smaller invariant-loop decreases-loop
 loop-less c = omega arith
 
-loop-again : tie.Need-loop-again Inv-loop μ-loop
-loop-again c = let l = c .before .before .before in turned (l .before .loop .inv) (l .loop-test .taken) (c .before .lists .ensures) (c .if1 .left)
+loop-again : tie.Need-loop-preserved invariant-loop decreases-loop
+loop-again c = let l = c.before.before.before in turned l.before.loop.invariant l.loop-test.true c.before.lists.ensures c.if1.false
 
-returns-2 : tie.Need-returns-2 Inv-loop μ-loop
-returns-2 c = at-end (c .before .loop .inv) (c .loop-test .left)
+returns-2 : tie.Need-returns-2 invariant-loop decreases-loop
+returns-2 c = at-end c.before.loop.invariant c.loop-test.false
 
-pub find-spec : {M : Type 1} → statement M
-find-spec =
+pub find_spec : {M : Type 1} → statement M
+find_spec =
     tie.close
     (tie.spec
-    Inv-loop
-    μ-loop
+    invariant-loop
+    decreases-loop
     mul-any
     add-any
     mul-own

@@ -1,8 +1,8 @@
 -- `names` is the constant that is computed from the table. Assumes nothing.
 use mathlib.Core.Path.{refl}
-use Rattle·wokdesk·specs.specs.Names.{entry, often, entries, table}
-use Rattle·wokdesk·proofs.proofs.names.names.Statement.{statement}
-use Rattle·wokdesk·proofs.proofs.names.names.Tie as tie
+use Rattle.wokdesk.specs.Names.{entry, often, entries, table}
+use Rattle.wokdesk.proofs.names.names.Statement.{statement}
+use Rattle.wokdesk.proofs.names.names.Tie as tie
 
 returns : tie.Need-returns
 unfolding entry often entries table
