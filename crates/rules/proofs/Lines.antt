@@ -6,7 +6,6 @@ use mathlib.Core.Bool.{Bool, true, false, cond, not, ◌&&◌, ◌||◌, beq}
 use mathlib.Core.List.{List, [], ◌∷◌}
 use Prim.Native.Nat.{ℕ, zero, suc, ◌+◌, ◌≤◌, ◌<◌}
 use native.Mathlib.Omega.{arith}
-use borrow.Author.Rules.{zero≤}
 use borrow.Author.Tests.{ltb-true, ltb-false, leb-true, eqb-true, eq-eqb}
 use lib.Dec.{eqb, ltb, leb}
 use lib.ListN.{length, get_or}
@@ -62,11 +61,11 @@ among-all P t (x ∷ xs) a e = among_case P t x xs (eqb t x) refl a e (among-all
 
 pub seek-most : (ls : List Line) (k t i : ℕ) → seek ls k t i ≤ length ls
 unfolding seek
-seek-most [] k t i = zero≤
+seek-most [] k t i = omega arith
 seek-most (l ∷ ls) k t i = most (lists k t i l) (seek-most ls k t i)
   where
     most : (c : Bool) → seek ls k t i ≤ length ls → cond c 0 (suc (seek ls k t i)) ≤ suc (length ls)
-    most true r = zero≤
+    most true r = omega arith
     most false r = omega arith
 
 pub seek-lists : (ls : List Line) (k t i : ℕ) → seek ls k t i < length ls → lists k t i (get_or ls (seek ls k t i) empty_line) ≡ true

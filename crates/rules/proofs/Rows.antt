@@ -9,7 +9,6 @@ use mathlib.Core.List.{List, [], ◌∷◌, ◌++◌}
 use Prim.Native.Nat.{ℕ, zero, suc, ◌+◌, ◌-◌, ◌*◌, ◌%◌, ◌≤◌, ◌<◌}
 use native.Mathlib.Omega.{arith}
 use native.Mathlib.Nat.{mod-lt}
-use borrow.Author.Rules.{zero≤}
 use lib.Dec.{eqb}
 use lib.ListN.{length, take, drop, get_or, length-append, length-drop, get_or-eq_default, get_or-append}
 use lib.Seq.{get_or-drop, get_or-take, get_or-append-add}
@@ -34,7 +33,7 @@ rows-length (i ∷ is) = omega (arith, rows-length is)
 
 pub kept-most : (is : List Item) → kept_rows is ≤ length is
 unfolding kept_rows
-kept-most [] = zero≤
+kept-most [] = omega arith
 kept-most (i ∷ is) = go (eqb i.stand kept) (kept-most is)
   where
     go : (c : Bool) → kept_rows is ≤ length is → cond c (suc (kept_rows is)) (kept_rows is) ≤ suc (length is)
@@ -42,7 +41,7 @@ kept-most (i ∷ is) = go (eqb i.stand kept) (kept-most is)
     go false h = omega arith
 
 pub quarter : {b : Book} {k v : ℕ} {m : List ℕ} {p n at : ℕ} {xs : List ℕ} {es : List Item} → Walked b k v m p n at xs es → 4 * length es ≤ length xs
-quarter Walked.ends = zero≤
+quarter Walked.ends = omega arith
 quarter (Walked.alone {xs = xs} h a e t) = omega (arith, fits a, rest-length xs h.len (fits a), quarter t)
 quarter (Walked.group {xs = xs} {is = is} {es = es} h g a e d t) =
     omega (arith, fits a, rest-length xs h.len (fits a), value-length xs h.len (fits a), quarter d, quarter t, length-append is es)
