@@ -13,7 +13,7 @@ use rules::Verdict;
 pub mod values;
 
 // Who looks at a message, and how: on which kind, with the right to see subscribers or without it, with values whole or cut.
-#[derive(Drop)]
+#[derive(Clone, Copy)]
 pub struct View {
     pub kind: u32,
     pub right: bool,

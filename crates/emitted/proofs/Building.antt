@@ -8,7 +8,7 @@ use Prim.Native.Nat.{ℕ, zero, suc, ◌+◌, ◌-◌, ◌*◌, ◌/◌, ◌%◌
 use native.Mathlib.Omega.{arith}
 use native.Mathlib.Nat.{add-zero}
 use borrow.Author.Tests.{eqb-true, eq-eqb, ltb-false, not-false}
-use borrow.Author.Rules.{zero≤}
+
 use lib.Dec.{eqb, ltb}
 use lib.ListN.{length, take, drop, get_or, length-append}
 use Rattle.rules.specs.Sizes.{largest_message}
@@ -89,7 +89,7 @@ module _ (b : Book) (fine : sound b ≡ true) (k typ teid sequence : ℕ) (t val
     tree = parsed given-rows s deep
 
     grows-given : emitted 0 given-rows ≡ grown tree.forest
-    grows-given = ap (emitted 0) (sym tree.rows_are) ∙ grows tree.forest zero≤
+    grows-given = ap (emitted 0) (sym tree.rows_are) ∙ grows tree.forest (omega arith)
 
     made-is : made ≡ written opening typ front (grown tree.forest)
     unfolding built
@@ -172,5 +172,5 @@ module _ (b : Book) (fine : sound b ≡ true) (teid sequence : ℕ) (t values : 
   build-most room = go (refuses (build_verdict b teid sequence t values room)) refl
     where
       go : (c : Bool) → refuses (build_verdict b teid sequence t values room) ≡ c → cond c 0 (length (built_by b teid sequence t values)) ≤ largest_message
-      go true e = zero≤
+      go true e = (omega arith)
       go false e = (build-fits b fine (table_kind t) (table_type t) teid sequence t values room (headed-pass room e)).0

@@ -10,7 +10,7 @@ use Prim.Native.Nat.{ℕ, zero, suc, ◌+◌, ◌-◌, ◌*◌, ◌/◌, ◌%◌
 use native.Mathlib.Omega.{arith}
 use native.Mathlib.Nat.{add-zero}
 use borrow.Author.Tests.{eqb-true, eq-eqb, le-ltb}
-use borrow.Author.Rules.{zero≤}
+
 use lib.Dec.{eqb, ltb}
 use lib.ListN.{length, take, drop, get_or, length-append, length-take, length-drop, length-replicate, take-append-drop}
 use lib.Seq.{length-take-le, take_at, append_snoc, drop-drop}
@@ -84,16 +84,16 @@ size-most x n l = go (stays x)
   where
     go : (c : Bool) → cond c (element_header + length x.value) 0 ≤ element_header + n
     go true = omega arith
-    go false = zero≤
+    go false = (omega arith)
 
 value-most : (c : Bool) (n : ℕ) (ys : List ℕ) → length (cond c [] (take n ys)) ≤ n
-value-most true n ys = zero≤
+value-most true n ys = (omega arith)
 value-most false n ys = simp length-take (omega arith)
 
 pub sizes-fit : (b : Book) (fine : sound b ≡ true) (k : ℕ) (w : List ℕ) {v : ℕ} {m : List ℕ} {p n at : ℕ} {xs : List ℕ} {es : List Item}
     → Met b k v m p n at xs es → sizes (pieces w es) ≤ length xs
 unfolding sizes pieces received item_of
-sizes-fit b fine k w ends = zero≤
+sizes-fit b fine k w ends = (omega arith)
 sizes-fit b fine k w (alone {v = v} {m = m} {p = p} {at = at} {xs = xs} {es = es} h a e t) =
     omega (
       arith,
@@ -103,7 +103,7 @@ sizes-fit b fine k w (alone {v = v} {m = m} {p = p} {at = at} {xs = xs} {es = es
       sizes-fit b fine k w t,
     )
 sizes-fit b fine k w (group {v = v} {m = m} {p = p} {at = at} {xs = xs} {is = is} {es = es} h g a e d t) =
-    let none : length (received w (item_of b k v m p at h)).value ≤ 0 = rw (group_type b fine k v m h g e) zero≤ in
+    let none : length (received w (item_of b k v m p at h)).value ≤ 0 = rw (group_type b fine k v m h g e) (omega arith) in
     omega (
       arith,
       fits a,
@@ -137,7 +137,7 @@ module _ (b : Book) (fine : sound b ≡ true) (k : ℕ) (m : List ℕ) (p : Pass
   copy = written (octet m 0) (octet m 1) (take (header_length m - 4) (drop 4 m)) (grown run.forest)
 
   grows-rows : emitted 0 (pieces m es) ≡ grown run.forest
-  grows-rows = rw (← run.rows_are) (grows run.forest zero≤)
+  grows-rows = rw (← run.rows_are) (grows run.forest (omega arith))
 
   pub is-cleaned : cleaned b k m ≡ copy
   unfolding cleaned
@@ -281,7 +281,7 @@ clean-same b fine k m o ok =
     let r = accepted-wholly b k m ok in
     let p = r.1.passed in
     let s = same-run b fine k m (body-met b k m r.0 r.1.taken_whole) r.1.all_kept (octets-drop (header_length m) m o) (here-from m (header_length m)) in
-    let e : emitted 0 (pieces m r.0) ≡ drop (header_length m) m = ap (emitted 0) (sym s.rows_are) ∙ grows s.forest zero≤ ∙ s.grows_it in
+    let e : emitted 0 (pieces m r.0) ≡ drop (header_length m) m = ap (emitted 0) (sym s.rows_are) ∙ grows s.forest (omega arith) ∙ s.grows_it in
     rw (r.1.taken_whole, e)
     (written-own m (take (header_length m - 4) (drop 4 m)) (drop (header_length m) m) (omega (arith, header-least m, p.has_header)) p.length_right o
     (front-body m (header_length m) (omega (arith, header-least m))))

@@ -5,7 +5,7 @@ use mathlib.Core.Bool.{Bool, true, false, cond}
 use mathlib.Core.List.{List, [], ◌∷◌, ◌++◌}
 use Prim.Native.Nat.{ℕ, zero, suc, ◌+◌, ◌-◌, ◌*◌, ◌/◌, ◌%◌, ◌≤◌, ◌<◌}
 use native.Mathlib.Omega.{arith}
-use borrow.Author.Rules.{zero≤}
+
 use lib.Dec.{ltb}
 use lib.ListN.{length, take, drop, length-drop}
 use Rattle.rules.specs.Framing.{octet, element_header, header_length}
@@ -46,11 +46,11 @@ AllIn (x ∷ xs) = InOctets x × AllIn xs
 
 within-most : (r : ℕ) (xs : List Piece) → within r xs ≤ sizes xs
 unfolding within sizes
-within-most r [] = zero≤
+within-most r [] = (omega arith)
 within-most r (x ∷ xs) = go (ltb x.parent r) (within-most r xs)
   where
     go : (c : Bool) → within r xs ≤ sizes xs → cond c 0 (size_of x + within r xs) ≤ size_of x + sizes xs
-    go true h = zero≤
+    go true h = (omega arith)
     go false h = omega arith
 
 emitted-octets : (n : ℕ) (xs : List Piece) → AllIn xs → sizes xs < 65536 → Octets (emitted n xs)

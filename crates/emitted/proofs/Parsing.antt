@@ -7,7 +7,7 @@ use Prim.Native.Nat.{ℕ, zero, suc, ◌+◌, ◌-◌, ◌≤◌, ◌<◌}
 use native.Mathlib.Omega.{arith}
 use native.Mathlib.Nat.{add-zero}
 use borrow.Author.Tests.{eqb-true, eqb-false, eq-eqb, ne_eqb}
-use borrow.Author.Rules.{zero≤}
+
 use lib.Dec.{eqb}
 use lib.ListN.{length, length-append}
 use Rattle.rules.specs.Types.{among, is_group}
@@ -186,4 +186,4 @@ deep-before (node {p = q} {n = n} {is = is} {ps = ps} x z e g u d t) l a above p
     (λ p' h'. deep-at p' (n + suc (length (is ++ ps))) (n + 1 + length is + length ps) qs (omega (arith, length-append is ps)) (k p' h'))))))
 
 pub depth-first : {ps : List Piece} → Forest 0 0 ps → AllSit ps → depth_first (0 ∷ []) 0 ps ≡ true
-depth-first {ps} f a = rw (append-nil ps) at (deep-before f zero≤ a [] (0 ∷ []) [] (shows_own (0 ∷ []) 0) (λ p h. deep_nil p (0 + length ps)))
+depth-first {ps} f a = rw (append-nil ps) at (deep-before f (omega arith) a [] (0 ∷ []) [] (shows_own (0 ∷ []) 0) (λ p h. deep_nil p (0 + length ps)))

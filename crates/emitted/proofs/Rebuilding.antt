@@ -8,7 +8,7 @@ use native.Mathlib.Omega.{arith}
 use native.Mathlib.Nat.{add-zero}
 use native.Mathlib.Decide.{ℕ_discrete}
 use borrow.Author.Tests.{eqb-true, eqb-false, eq-eqb, le-ltb}
-use borrow.Author.Rules.{zero≤}
+
 use lib.Dec.{eqb, ltb}
 use lib.ListN.{length, take, drop, get_or, length-append, length-drop, get_or-append}
 use lib.Seq.{get_or-append-add, drop-cons, take-length}
@@ -189,7 +189,7 @@ module _ (b : Book) (fine : sound b ≡ true) (k : ℕ) (m : List ℕ) (o : Octe
   self = same-run b fine k m met own.all_kept (octets-drop (header_length m) m o) (here-from m (header_length m))
 
   emits : emitted 0 (pieces m es) ≡ drop (header_length m) m
-  emits = ap (emitted 0) (sym self.rows_are) ∙ grows self.forest zero≤ ∙ self.grows_it
+  emits = ap (emitted 0) (sym self.rows_are) ∙ grows self.forest (omega arith) ∙ self.grows_it
 
   flag : flag_t m ≡ (message_of b (message_type m)).teid
   flag = passed.t_right
@@ -206,7 +206,7 @@ module _ (b : Book) (fine : sound b ≡ true) (k : ℕ) (m : List ℕ) (o : Octe
 
   -- every row fits: its type, its instance, and where its value ends
   fit : (r : ℕ) → r < length es → Fits (0 + length es) (header_length m + length (drop (header_length m) m)) (nth es r)
-  fit r l = every-at (Fits (0 + length es) (header_length m + length (drop (header_length m) m))) es (all_fit met (octets-drop (header_length m) m o) zero≤) r l
+  fit r l = every-at (Fits (0 + length es) (header_length m + length (drop (header_length m) m))) es (all_fit met (octets-drop (header_length m) m o) (omega arith)) r l
 
   all_sit : AllSit (pieces m es)
   all_sit = sits-all m es own.all_kept

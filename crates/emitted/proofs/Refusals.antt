@@ -8,7 +8,7 @@ use mathlib.Core.Bool.{Bool, true, false, cond}
 use mathlib.Core.List.{List, [], ◌∷◌, ◌++◌, append_assoc}
 use Prim.Native.Nat.{ℕ, ◌+◌, ◌*◌, ◌≤◌}
 use native.Mathlib.Omega.{arith}
-use borrow.Author.Rules.{zero≤}
+
 use borrow.Author.Tests.{le-ltb, ltb-false}
 use lib.Dec.{ltb}
 use lib.ListN.{length}
@@ -92,7 +92,7 @@ unfolding clean_length
 clean-most b fine k m room = go (refuses (clean_verdict b k m room)) refl
   where
     go : (c : Bool) → refuses (clean_verdict b k m room) ≡ c → cond c 0 (length (cleaned b k m)) ≤ largest_message
-    go true e = zero≤
+    go true e = (omega arith)
     go false e =
         let ok = clean-amply b k m room e in
         omega (arith, clean_shorter b fine k m ok, (amply-accepted b k m ok).1.passed.most)

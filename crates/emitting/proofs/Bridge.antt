@@ -8,7 +8,6 @@ use mathlib.Core.List.{List, [], ◌∷◌, ◌++◌}
 use Prim.Native.Nat.{ℕ, zero, suc, ◌+◌, ◌-◌, ◌*◌, ◌≤◌, ◌<◌}
 use native.Mathlib.Omega.{arith}
 use native.Mathlib.Nat.{add-zero}
-use borrow.Author.Rules.{zero≤}
 use lib.Dec.{eqb, ltb}
 use lib.ListN.{length, length-append}
 use Rattle.rules.specs.Framing.{element_header}
@@ -95,11 +94,11 @@ module _ (rows source : List ℕ) (own : Bool) where
 
 within-most : (rows : List ℕ) (r k j : ℕ) → within_rows rows r j k ≤ sizes_in rows j k
 unfolding within_rows sizes_in
-within-most rows r zero j = zero≤
+within-most rows r zero j = (omega arith)
 within-most rows r (suc k) j = go (ltb (number rows j 0) r) (within-most rows r k (j + 1))
   where
     go : (c : Bool) → within_rows rows r (j + 1) k ≤ sizes_in rows (j + 1) k → cond c 0 (size_at_row rows j + within_rows rows r (j + 1) k) ≤ size_at_row rows j + sizes_in rows (j + 1) k
-    go true h = zero≤
+    go true h = (omega arith)
     go false h = omega arith
 
 tail-most : (rows : List ℕ) (d k i : ℕ) → sizes_in rows (i + d) k ≤ sizes_in rows i (d + k)

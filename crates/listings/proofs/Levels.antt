@@ -7,7 +7,6 @@ use Prim.Native.Nat.{ℕ, zero, suc, ◌+◌, ◌-◌, ◌≤◌, ◌<◌}
 use native.Mathlib.Nat.{add-zero, zero-add, add_assoc}
 use native.Mathlib.Numerals.{add-one}
 use native.Mathlib.Omega.{arith}
-use borrow.Author.Rules.{zero≤}
 use lib.ListN.{length, get_or, take, drop, length-append, length-drop, get_or-append}
 use lib.Seq.{get_or-append-add, take_at, drop-append-add}
 use Rattle.rules.specs.Listings.{Line, Book, empty_line, levels, book, listing}
@@ -31,11 +30,11 @@ entry_at (l ∷ ls) (suc n) h = entry_at ls n (omega arith)
 
 pub skipped-most : (ls : List Line) → skipped ls ≤ length ls
 unfolding skipped
-skipped-most [] = zero≤
+skipped-most [] = (omega arith)
 skipped-most (l ∷ ls) = go l.must (skipped-most ls)
   where
     go : (c : Bool) → skipped ls ≤ length ls → cond c 0 (suc (skipped ls)) ≤ suc (length ls)
-    go true h = zero≤
+    go true h = (omega arith)
     go false h = omega arith
 
 -- ---- where they stand

@@ -7,7 +7,7 @@ use crate::runs::number_at;
 use crate::table;
 
 // Where a text begins, and where it ends.
-#[derive(Drop)]
+#[derive(Clone, Copy)]
 pub(crate) struct Stretch {
     pub start: usize,
     pub end: usize,

@@ -17,7 +17,7 @@ pub mod sound;
 mod step;
 
 // A level that is open: its listing, the marks of its pairs, its parent's row, its place, and the octets that it has left from the next element on.
-#[derive(Drop)]
+#[derive(Clone, Copy)]
 pub struct Open {
     pub level: u8,
     pub marks: [u8; 32],
@@ -29,7 +29,7 @@ pub struct Open {
 // What is held of the elements: cut at `place`; or `depth` levels are open, the next element begins at `place`, `have` octets of its
 // header are in `some`, and `pass` octets are passed over before it. The innermost level may be `limited`: it has held `apns` so far, and if they
 // are too many the counts go `back` to what they are without its inside.
-#[derive(Drop)]
+#[derive(Clone, Copy)]
 pub struct Going {
     pub stopped: bool,
     pub depth: usize,
@@ -45,7 +45,7 @@ pub struct Going {
 }
 
 // What is held between two parts: no octet of the message but the first four, and those of a header that is not whole.
-#[derive(Drop)]
+#[derive(Clone, Copy)]
 pub struct Pieces {
     pub kind: u32,
     pub room: usize,
@@ -56,7 +56,7 @@ pub struct Pieces {
 }
 
 // What some octets leave of the elements: how many were taken, and whether an element was, whose row is then to be written.
-#[derive(Drop)]
+#[derive(Clone, Copy)]
 pub struct Walked {
     pub going: Going,
     pub taken: usize,
@@ -64,7 +64,7 @@ pub struct Walked {
 }
 
 // The same of a message.
-#[derive(Drop)]
+#[derive(Clone, Copy)]
 pub struct Stride {
     pub state: Pieces,
     pub taken: usize,
@@ -72,7 +72,7 @@ pub struct Stride {
 }
 
 // What a part or the end answers: the state to go on with, and the verdict.
-#[derive(Drop)]
+#[derive(Clone, Copy)]
 pub struct Told {
     pub state: Pieces,
     pub verdict: Verdict,

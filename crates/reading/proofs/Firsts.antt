@@ -8,7 +8,7 @@ use mathlib.Core.List.{List, [], ◌∷◌, ◌++◌, append_assoc}
 use Prim.Native.Nat.{ℕ, zero, suc, ◌+◌, ◌*◌, ◌≤◌, ◌<◌}
 use native.Mathlib.Omega.{arith}
 use native.Mathlib.Nat.{add-zero, add-suc, suc-add}
-use borrow.Author.Rules.{zero≤}
+
 use lib.Dec.{eqb}
 use lib.ListN.{length}
 use Rattle.rules.specs.Listings.{Book, Line, listing}
@@ -40,7 +40,7 @@ pub record Within (lo hi x : ℕ) : Type 0 where
   pub high : x ≤ hi * 4096
 
 none_within : (lo hi : ℕ) → Within lo hi 0
-none_within lo hi = record { low = λ z. absurd (z refl); high = zero≤ }
+none_within lo hi = record { low = λ z. absurd (z refl); high = (omega arith) }
 
 pub within_more : {lo hi lo' hi' x : ℕ} → Within lo hi x → lo' ≤ lo → hi ≤ hi' → Within lo' hi' x
 within_more w a c = record { low = λ z. omega (arith, w.low z); high = omega (arith, w.high) }

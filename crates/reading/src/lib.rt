@@ -12,7 +12,7 @@ use taking::Counts;
 mod run;
 
 // A run of elements is cut at a place, or whole.
-#[derive(Drop)]
+#[derive(Clone, Copy)]
 pub(crate) enum Walk {
     Cut(usize),
     Whole(Counts),

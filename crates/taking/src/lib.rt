@@ -11,7 +11,7 @@ pub mod line;
 
 // What is counted as elements are taken: rows, kept rows, the first mandatory short element and the first level that lacks a pair, each a
 // place with a pair as one number, or 0 for none.
-#[derive(Drop)]
+#[derive(Clone, Copy)]
 pub struct Counts {
     pub rows: usize,
     pub kept: usize,
@@ -20,7 +20,7 @@ pub struct Counts {
 }
 
 // The counts after an element, the level of its inside if it is kept and a group, else 0, and whether what that holds has limits.
-#[derive(Drop)]
+#[derive(Clone, Copy)]
 pub struct Taken {
     pub counts: Counts,
     pub inner: u8,

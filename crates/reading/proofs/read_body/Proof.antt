@@ -3,7 +3,7 @@ use mathlib.Core.Path.{◌≡◌, ◌∙◌}
 use Prim.Native.Nat.{◌+◌, ◌≤◌}
 use native.Mathlib.Omega.{arith}
 use lib.ListN.{length, drop, length-drop}
-use borrow.Author.Rules.{zero≤}
+
 use Rattle.rules.specs.Listings.{book}
 use Rattle.rules.proofs.Header.{Passed, passed}
 use Rattle.heading.proofs.Messages.{passed-listed}
@@ -54,9 +54,9 @@ read-run-requires c κs =
     let s = d.before.before.before.before.before in record {
       lent = record { kind = (pass s).kind; levels = d.before.before.numbers.ensures };
       level = d.body.ensures.level;
-      home = zero≤;
-      parent = zero≤;
-      few = rw c.no-counts.ensures (record { kept = zero≤; rows = zero≤ });
+      home = (omega arith);
+      parent = (omega arith);
+      few = rw c.no-counts.ensures (record { kept = (omega arith); rows = (omega arith) });
       ends = rw (rest-is s.args.message.now d.before.start.result) (ends d);
     }
 

@@ -6,7 +6,7 @@ use Prim.Native.Nat.{ℕ, ◌+◌, ◌-◌, ◌≤◌, ◌<◌}
 use native.Mathlib.Omega.{arith}
 use native.Mathlib.Nat.{add-zero, pos_of_ne-zero}
 use lib.ListN.{length, take, drop}
-use borrow.Author.Rules.{zero≤}
+
 use borrow.Author.Tests.{not-true, not-false}
 use borrow.Fn.Kinds.{In}
 use borrow.Fn.PlainCycle.{Measures, is, falls, and}
@@ -125,7 +125,7 @@ lines : (t : ℕ) (c : read-run-lts.After-of-level (read-run_calls t) (read-run-
 lines t c = let r = c.before.before.before.before.requires.1 in record { kind = r.lent.kind; level = r.level; lines = c.of-level.ensures }
 
 read-run_loop_holds : (t : ℕ) → read-run-lts.Need-loop-init (read-run_calls t) (read-run-at t) read-run.Post read-run_Inv_loop read-run_μ_loop
-read-run_loop_holds t c = let s = c.before.before.before.before in record { passed = zero≤; few = rw add-zero s.requires.1.few; room = refl; goes = rw add-zero }
+read-run_loop_holds t c = let s = c.before.before.before.before in record { passed = (omega arith); few = rw add-zero s.requires.1.few; room = refl; goes = rw add-zero }
 
 read-run_add_place : (t : ℕ) → read-run-lts.Need-overflow-add-place (read-run_calls t) (read-run-at t) read-run.Post read-run_Inv_loop read-run_μ_loop
 read-run_add_place t c = omega (arith, ends-within t c.before, c.before.loop.invariant.passed)
@@ -205,7 +205,7 @@ read-run-enter-group_requires t c κs =
           lent = s.requires.1.lent;
           level = inner-low s.args.kind s.args.level l.loop.seen _ k.take-one.result.inner k.take-one.ensures.level;
           home = omega (arith, ends-within t l, lies t e);
-          parent = zero≤;
+          parent = (omega arith);
           few = k.take-one.ensures.few;
           ends = omega (arith, n, ends-within t l, lies t e);
         };

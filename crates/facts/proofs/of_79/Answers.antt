@@ -1,0 +1,11 @@
+-- `of_79` adds up the parts that its first octet tells of. Assumes nothing.
+use native.Mathlib.Omega.{arith}
+use Rattle.facts.proofs.Facts.{sum_79}
+use Rattle.facts.proofs.of_79.Goals as goal
+
+pub returns : goal.returns
+returns c =
+    record {
+      is = sum_79 c.args.first _ _ _ c.part.ensures.is c.part-2.ensures.is c.part-3.ensures.is;
+      low = omega (arith, c.part.ensures.low, c.part-2.ensures.low, c.part-3.ensures.low);
+    }

@@ -1,0 +1,21 @@
+-- `length_field` meets its contract: two octets, high octet first. Assumes nothing.
+use mathlib.Core.Path.{refl}
+use native.Mathlib.Omega.{arith}
+use Rattle.rules.specs.Framing.{length_field}
+use Rattle.heading.proofs.length_field.Goals as goal
+
+pub overflow_cast-result : goal.overflow_cast-result
+overflow_cast-result c = omega (arith, c.shared_slice_known-1.given 2)
+
+pub overflow_mul-result : goal.overflow_mul-result
+overflow_mul-result c = omega (arith, c.shared_slice_known-1.given 2)
+
+pub overflow_cast-result-2 : goal.overflow_cast-result-2
+overflow_cast-result-2 c = omega (arith, c.shared_slice_known-2-1.given 3)
+
+pub overflow_add-result : goal.overflow_add-result
+overflow_add-result c = omega (arith, c.shared_slice_known-1.given 2, c.shared_slice_known-2-1.given 3)
+
+pub returns : goal.returns
+unfolding length_field
+returns c = record { is = refl; low = omega (arith, c.shared_slice_known-1.given 2, c.shared_slice_known-2-1.given 3) }

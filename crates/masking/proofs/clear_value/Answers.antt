@@ -1,0 +1,10 @@
+-- `clear_value` lends the value's own part of the copy to `clear`. Assumes nothing.
+use Prim.Native.Nat.{◌+◌, ◌-◌}
+use native.Mathlib.Omega.{arith}
+use Rattle.masking.proofs.Parts.{part-back}
+use Rattle.masking.proofs.clear_value.Goals as goal
+
+pub returns : goal.returns
+returns c =
+    part-back c.args.copy.now c.clear.new.part (c.args.place + c.args.shown) (c.args.place + c.args.len) (c.args.len - c.args.shown)
+    (omega arith) (omega arith) c.clear.ensures

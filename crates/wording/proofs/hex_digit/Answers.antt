@@ -1,0 +1,12 @@
+-- `hex_digit` by whether it is a decimal digit. Assumes nothing.
+use borrow.Author.Tests.{lt-ltb, le-ltb}
+use Rattle.wording.specs.Pieces.{hex_digit}
+use Rattle.wording.proofs.hex_digit.Goals as goal
+
+pub returns-then-x-lt10 : goal.returns-then-x-lt10
+unfolding hex_digit
+returns-then-x-lt10 c = rw (lt-ltb _ _ c.if-x-lt10.true)
+
+pub returns : goal.returns
+unfolding hex_digit
+returns c = rw (le-ltb _ _ c.if-x-lt10.false)
