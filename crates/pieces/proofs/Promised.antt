@@ -48,7 +48,7 @@ further : {k room : ℕ} {ps : List (List ℕ)} {p : Pieces} {t : List ℕ} (qs 
 further {k} {room} {ps} {p} {t} [] run = (p, t, rw (append-nil ps) run)
 further {k} {room} {ps} {p} {t} (q ∷ qs) run =
     let e : (ps ++ (q ∷ [])) ++ qs ≡ ps ++ (q ∷ qs) = append_assoc ps (q ∷ []) qs in
-    rw e at (further qs (goes_on {part = q} {t' = part_table p q t} {r = part_told p q t} run (record { answers = refl; table_left = refl })))
+    rw e at (further {ps = ps ++ (q ∷ [])} qs (goes_on {part = q} {t' = part_table p q t} {r = part_told p q t} run (record { answers = refl; table_left = refl })))
 
 pub some-run : (k : ℕ) (lent : List ℕ) (ps : List (List ℕ)) → (p : Pieces) × (t : List ℕ) × Runs k (length lent) ps p t
 some-run k lent ps = further ps (begins {lent = lent} refl (record { answers = refl; table_left = refl }))
