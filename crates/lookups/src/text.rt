@@ -1,10 +1,9 @@
 // The text of a lookup: fields with blanks between them, octets in hex, numbers in decimal, commas between those of a table. `-` is
 // an empty field. What is no such text is read as something, and never outside of what is lent.
 ghost use Rattle.std.specs.Prelude.{◌≡◌, ◌≤◌, ◌<◌, length};
-ghost use Rattle.io.specs.Counts.{IsPrefixLen};
-ghost use Rattle.lookups.specs.Places.{From, Past};
+ghost use Rattle.lookups.specs.Places.{From, Past, IsPrefixLen};
 
-use libc::STDOUT_FILENO;
+use std::io;
 
 // The place of the first `x` from `from` on, or the end.
 pub(crate) fn find(text: &[u8], from: usize, x: u8) -> usize
@@ -49,7 +48,7 @@ pub(crate) fn field<'a>(line: &'a [u8], k: usize) -> &'a [u8] {
 fn nibble(x: u8) -> u8
     ensures { result < 16 }
 {
-    if x < b'_a' {
+    if x < b'A' {
         return x % 16;
     }
     (x % 16 + 9) % 16
@@ -155,12 +154,12 @@ fn digit_room() -> [u8; 131072]
 }
 
 // The octets of a part in hex, by way of `out`.
-fn print_by(part: &[u8], out: &mut [u8]) {
+fn print_by(rt: &impl Print, part: &[u8], out: &mut [u8]) -> io::Result<()> {
     let n = wording::hexes(part, 0, out);
-    io::write_all(STDOUT_FILENO, output::first(out, n));
+    rt.write_all(output::first(out, n))
 }
 
-pub(crate) fn print_octets(part: &[u8]) {
+pub(crate) fn print_octets(rt: &impl Print, part: &[u8]) -> io::Result<()> {
     let mut out = digit_room();
-    print_by(part, &mut out);
+    print_by(rt, part, &mut out)
 }
