@@ -64,6 +64,7 @@ inner-at : {xs : List ℕ} {fs : List Frame} {c : ℕ} {f : Frame} → Filled xs
 inner-at (Filled.more w d) front = record { whole = w; is = refl }
 inner-at {f = f} (Filled.more {xs = xs} w d) (later {c = c} i) =
     let s : Says (drop (element_header + (head_of xs).len + c) xs) f = rw (drop-drop c (element_header + (head_of xs).len) xs) at (inner-at d i) in s
+inner-at {c = c} {f = f} Filled.none i = elim i [ ]
 
 -- ---- a kept group is filled too
 

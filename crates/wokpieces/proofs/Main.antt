@@ -160,7 +160,7 @@ further : {k : ℕ} {ps : List (List ℕ)} {state table : List ℕ} (qs : List (
 further {k} {ps} {state} {table} [] run = (state, table, rw (append-nil ps) run)
 further {k} {ps} {state} {table} (q ∷ qs) run =
     let e : (ps ++ (q ∷ [])) ++ qs ≡ ps ++ (q ∷ qs) = append_assoc ps (q ∷ []) qs in
-    rw e at (further qs (goes {part = q} {five = []} run (record { answers = refl; state_left = refl; table_left = refl; five_left = refl })))
+    rw e at (further {ps = ps ++ (q ∷ [])} qs (goes {part = q} {five = []} run (record { answers = refl; state_left = refl; table_left = refl; five_left = refl })))
 
 pub some-run : (k : ℕ) (state table : List ℕ) → state_size ≤ length state → (ps : List (List ℕ)) → (state' : List ℕ) × (table' : List ℕ) × Runs k ps state' table'
 some-run k state table l ps = further ps (begins {state = state} {table = table} l (record { answers = refl; state_left = refl; table_left = refl }))

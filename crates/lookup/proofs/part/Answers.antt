@@ -5,11 +5,5 @@ use native.Mathlib.Omega.{arith}
 use borrow.Author.Rules.{rules}
 use Rattle.lookup.proofs.part.Goals as goal
 
--- TODO part-result-start : tie.Need-slice-bounds-result-start
--- TODO part-result-start c = search rules
-
--- TODO part-result-end : tie.Need-slice-bounds-result-end
--- TODO part-result-end c = search rules
-
 pub returns : goal.returns
 returns c = record { octets = rw add-sub_cancel_left; block = refl; place = omega arith }

@@ -11,8 +11,8 @@ pub ended-n-requires : goal.ended-n-requires
 ended-n-requires c = tt
 
 pub slice_bounds-result-end : goal.slice_bounds-result-end
-slice_bounds-result-end c = sym (length-take-le c.before.ended.result c.before.before.entry.result.now c.before.ended.ensures.within)
+slice_bounds-result-end c = sym (length-take-le c.ended-n.result c.entry-e.result.now c.ended-n.ensures.within)
 
 pub returns : goal.returns
 unfolding element_name
-returns c = c.before.ended.ensures.name ∙ ap trimmed c.before.before.entry.ensures
+returns c = c.ended-n.ensures.name ∙ ap trimmed c.entry-e.ensures

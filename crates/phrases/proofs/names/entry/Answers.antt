@@ -4,7 +4,7 @@ use mathlib.Core.Path.{refl}
 use Rattle.phrases.proofs.names.entry.Goals as goal
 
 pub returns-then-names-start : goal.returns-then-names-start
-returns-then-names-start c = let a = c.args in entry_past a.names.now a.typ c.before.if1.true
+returns-then-names-start c = let a = c.args in entry_past a.names.now a.typ c.if-names-start.true
 
 pub returns-then-names-start-2 : goal.returns-then-names-start-2
 returns-then-names-start-2 c = let a = c.args in entry-last a.names.now a.typ c.if-names-start-2.true

@@ -9,7 +9,7 @@ returns-then-what-eq0 c = rw (eq-eqb _ _ c.if-what-eq0.true) c.right.ensures
 
 pub returns-then-what-eq1 : goal.returns-then-what-eq1
 unfolding worded
-returns-then-what-eq1 c = rw (ne_eqb _ _ c.if-what-eq0.false, eq-eqb _ _ c.if-what-eq1.true) c.before.before.Some-number.ensures
+returns-then-what-eq1 c = rw (ne_eqb _ _ c.if-what-eq0.false, eq-eqb _ _ c.if-what-eq1.true) c.some_number.ensures
 
 pub returns-then-what-eq2 : goal.returns-then-what-eq2
 unfolding worded

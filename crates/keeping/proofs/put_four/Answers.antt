@@ -1,0 +1,17 @@
+-- `put_four` stores four octets one after another. Assumes nothing.
+use native.Mathlib.Omega.{arith}
+use lib.ListN.{length-set}
+use Rattle.keeping.proofs.Storing.{four-set}
+use Rattle.keeping.proofs.put_four.Goals as goal
+
+pub bounds-out-at-2 : goal.bounds-out-at-2
+bounds-out-at-2 c = simp length-set (omega (arith, c.requires))
+
+pub bounds-out-at-3 : goal.bounds-out-at-3
+bounds-out-at-3 c = simp length-set (omega (arith, c.requires))
+
+pub bounds-out-at-4 : goal.bounds-out-at-4
+bounds-out-at-4 c = simp length-set (omega (arith, c.requires))
+
+pub returns : goal.returns
+returns c = four-set c.args.out.now c.args.at _
