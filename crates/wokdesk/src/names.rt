@@ -137,7 +137,7 @@ const NAMES: [u8; 8192] = *b"\
     Change Reporting Action         \
     FQ-CSID                         \
     Channel needed                  \
-    e_mlpp Priority                  \
+    eMLPP Priority                  \
     Node Type                       \
     FQDN                            \
     Transaction Identifier (TI)     \

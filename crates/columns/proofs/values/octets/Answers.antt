@@ -19,9 +19,6 @@ returns-then-part-le32 c = rw (c.if-full.false, le-ltb _ _ c.if-part-le32.true) 
 pub slice_bounds-hexes-end : goal.slice_bounds-hexes-end
 slice_bounds-hexes-end c = sym (length-take-le 32 c.args.part.now (omega (arith, c.if-part-le32.false)))
 
--- TODO slice-aggregate-copy : tie.Need-slice-aggregate-copy
--- TODO slice-aggregate-copy c = search rules
-
 pub returns : goal.returns
 unfolding octets_text
 returns c = rw (c.if-full.false, lt-ltb _ _ c.if-part-le32.false) (then-puts c.hexes-after.ensures c.copy.ensures)

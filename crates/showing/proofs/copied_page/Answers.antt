@@ -1,0 +1,10 @@
+-- `copied_page` goes by whether a copy was made. Assumes nothing.
+use mathlib.Core.Path.{sym, ◌∙◌}
+use Rattle.showing.proofs.Paging.{page-refused, page-read}
+use Rattle.showing.proofs.copied_page.Goals as goal
+
+pub returns-then-copies : goal.returns-then-copies
+returns-then-copies c = let a = c.args in page-read a.names.now a.view a.message.now c.list-v.ensures (sym c.copies.ensures ∙ c.if-copies.true) c.read_page.ensures
+
+pub returns : goal.returns
+returns c = let a = c.args in page-refused a.names.now a.view a.message.now c.list-v.ensures (sym c.copies.ensures ∙ c.if-copies.false) c.refused_page.ensures
