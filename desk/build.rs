@@ -1,4 +1,4 @@
-// Links the two libraries that `rt staticlib` makes: the card's, and the desk's page.
+// Links the two libraries that `.ci/static` makes: the card's, and the desk's page.
 use std::path::Path;
 
 fn main() {
@@ -6,7 +6,7 @@ fn main() {
     println!("cargo:rustc-link-search=native={}", folder.display());
     for name in ["wokshimmer", "wokdesk"] {
         let library = folder.join(format!("lib{name}.a"));
-        assert!(library.exists(), "run `rt staticlib {name}` first: {} is not there", library.display());
+        assert!(library.exists(), "run `.ci/static {name}` first: {} is not there", library.display());
         println!("cargo:rustc-link-lib=static={name}");
         println!("cargo:rerun-if-changed={}", library.display());
     }

@@ -1,7 +1,7 @@
 /*
  * A receiver of GTPv2-C over UDP and IPv4: receiver [--answer] [--parts] [PORT1 PORT2 PORT3 PORT4]
  *
- * Build it from the project's folder, after `rt staticlib wokshimmer` and `rt staticlib wokpieces` (receiver/build does this too):
+ * Build it from the project's folder, after `.ci/static wokshimmer wokpieces` (receiver/build does this too):
  *   gcc -std=c99 -O2 -Iinclude -o receiver receiver/receiver.c target/staticlib/libwokshimmer.a target/staticlib/libwokpieces.a -lpthread
  *
  * One port a kind, S11, S4, S5/S8 and S10; 0, and no ports at all, let the system choose. The first line names the ports. Every datagram is

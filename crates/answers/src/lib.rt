@@ -1,4 +1,6 @@
 // Verdicts as the code makes them: acceptance, a refusal, one that names what is wrong, and the first of two that refuses.
+#![tactic(auto)]
+
 ghost use Rattle.std.specs.Prelude.{◌≡◌, [], ◌∷◌};
 ghost use Rattle.rules.specs.Verdicts.{accepted, refused, refused_at, first};
 

@@ -4,24 +4,23 @@
 --     refused-early, refused-large, builds                             the answer
 use mathlib.Core.Path.{◌≡◌, refl, sym, ap, ◌∙◌}
 use mathlib.Core.Logic.{◌⊎◌, inl, inr}
-use mathlib.Core.Bool.{Bool, true, false, cond, not, ◌&&◌, ◌||◌}
-use mathlib.Core.List.{List, [], ◌∷◌, ◌++◌}
-use Prim.Native.Nat.{ℕ, zero, suc, ◌+◌, ◌-◌, ◌*◌, ◌/◌, ◌%◌, ◌≤◌, ◌<◌}
+use mathlib.Core.Bool.{Bool, true, false, cond, not}
+use mathlib.Core.List.{List, [], ◌∷◌}
+use Prim.Native.Nat.{ℕ, zero, suc, ◌+◌, ◌-◌, ◌*◌, ◌≤◌, ◌<◌}
 use native.Mathlib.Omega.{arith}
 use native.Mathlib.Nat.{pos_of_ne-zero}
-use borrow.Author.Tests.{eq-eqb, lt-ltb, le-ltb}
+use borrow.Author.Tests.{lt-ltb, le-ltb}
 use lib.Dec.{eqb, ltb}
 use lib.ListN.{length, get_or, take, drop, length-append, length-drop}
 use lib.Seq.{length-take-le, get_or-drop, take_all}
 use Rattle.rules.specs.Sizes.{largest_message, header_numbers, row_numbers, used, most_rows}
 use Rattle.rules.specs.Types.{among, is_group}
-use Rattle.rules.specs.Listings.{Message, book, message_of, is_message}
-use Rattle.rules.specs.Table.{laid}
+use Rattle.rules.specs.Listings.{book, message_of, is_message}
 use Rattle.rules.specs.Standing.{kept}
-use Rattle.rules.specs.Values.{row_count, table_type, table_kind, cell, row_standing, row_instance, row_type, row_place, row_length}
+use Rattle.rules.specs.Values.{row_count, table_type, table_kind, cell, row_standing, row_type, row_place, row_length}
 use Rattle.rules.specs.Verdicts.{accepted, refused, check, refuses, first}
-use Rattle.rules.specs.Emitting.{Piece, sizes, size_of, emitted, written, accepted_whole}
-use Rattle.rules.specs.Built.{first_of, rest_of, given, givens, given_rows, reasons, any_of, has_teid, rest_given, built_length, built, build_checks, late_verdict, headed_checks, build_verdict, build_length, build_room}
+use Rattle.rules.specs.Emitting.{sizes, size_of, emitted}
+use Rattle.rules.specs.Built.{rest_of, given, givens, given_rows, reasons, any_of, has_teid, rest_given, built_length, built, build_checks, late_verdict, headed_checks, build_length, build_room}
 use Rattle.rules.specs.Octets.{numbers_in}
 use Rattle.rules.specs.Answers.{Builds}
 use Rattle.rules.specs.declared.Verdict.{Verdict}
@@ -31,11 +30,11 @@ use Rattle.rules.proofs.Reasons.{RowRight, NoReason, no_reason, none-holds, some
 use Rattle.heading.specs.Header.{HeaderOf}
 use Rattle.heading.proofs.Messages.{listed-octet}
 use Rattle.emitted.proofs.BuiltRows.{givens-length}
-use Rattle.emitting.specs.Emits.{number, sizes_in, parts_in, last_in, value_in, HasRows}
+use Rattle.emitting.specs.Emits.{number, sizes_in, parts_in}
 use Rattle.emitting.proofs.Bridge.{Agrees, Agreeing, emitted-size, sizes_are, parts_are, parts-size}
 use Rattle.given.specs.Given.{table_in, Copied}
 use Rattle.given.proofs.Tables.{numbers-alone, octets-alone}
-use Rattle.building.specs.Making.{early_checks, start_of, By, Makes, Made, size, message, late_checks, sixteen, BuildsBy}
+use Rattle.building.specs.Making.{early_checks, Makes, Made, size, message, late_checks, BuildsBy}
 
 -- ---- the first checks
 

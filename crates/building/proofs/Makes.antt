@@ -1,26 +1,26 @@
 -- What is made on the page is the message, and what goes to the room is that. Assumes nothing.
-use mathlib.Core.Path.{◌≡◌, refl, sym, ap, ◌∙◌}
+use mathlib.Core.Path.{◌≡◌, refl, ap, ◌∙◌}
 use mathlib.Core.Logic.{◌⊎◌, inl, inr}
-use mathlib.Core.Bool.{Bool, true, false, cond, not, ◌||◌}
+use mathlib.Core.Bool.{Bool, true, false, not, ◌||◌}
 use mathlib.Core.List.{List, [], ◌∷◌, ◌++◌}
-use Prim.Native.Nat.{ℕ, zero, suc, ◌+◌, ◌-◌, ◌*◌, ◌/◌, ◌%◌, ◌≤◌, ◌<◌}
+use Prim.Native.Nat.{ℕ, ◌+◌, ◌-◌, ◌/◌, ◌%◌, ◌≤◌, ◌<◌}
 use native.Mathlib.Omega.{arith}
-use borrow.Author.Tests.{eq-eqb, ne_eqb, lt-ltb, le-ltb}
-use lib.Dec.{eqb, ltb}
-use lib.ListN.{length, get_or, take, drop, length-append}
+use borrow.Author.Tests.{lt-ltb, le-ltb}
+use lib.Dec.{ltb}
+use lib.ListN.{length, take, drop, length-append}
 use lib.Seq.{length-take-le, take_at}
 use Rattle.rules.specs.Sizes.{largest_message}
 use Rattle.rules.specs.Listings.{book}
 use Rattle.rules.specs.Table.{laid}
-use Rattle.rules.specs.Verdicts.{accepted, refused, check, refuses, first}
+use Rattle.rules.specs.Verdicts.{accepted, refused, check, first}
 use Rattle.rules.specs.Emitting.{accepted_whole}
-use Rattle.rules.specs.Built.{first_of, rest_of, teid_octets, sequence_octets}
+use Rattle.rules.specs.Built.{teid_octets, sequence_octets}
 use Rattle.rules.specs.declared.Verdict.{Verdict}
 use Rattle.rules.specs.declared.Sent.{Sent}
-use Rattle.emitting.specs.Emits.{over, valued, sizes_in, parts_in, RowFit, PutsRows, number}
-use Rattle.emitting.proofs.Overs.{over-over, over-length}
+use Rattle.emitting.specs.Emits.{over, valued, parts_in, RowFit, PutsRows}
+use Rattle.emitting.proofs.Overs.{over-over}
 use Rattle.emitting.proofs.Bridge.{length-low}
-use Rattle.building.specs.Making.{start_of, Starts, By, Makes, Made, size, message, late_checks, sixteen}
+use Rattle.building.specs.Making.{start_of, By, Makes, Made, size, message, late_checks, sixteen}
 
 -- ---- the header
 

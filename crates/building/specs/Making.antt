@@ -1,8 +1,8 @@
 -- What the functions that make a message ask and leave, by the rows' numbers. Assumes nothing.
-use Rattle.std.specs.Prelude.{◌≡◌, ◌⊎◌, Bool, true, false, cond, not, ◌||◌, List, [], ◌∷◌, ◌++◌, ℕ, ◌+◌, ◌-◌, ◌*◌, ◌/◌, ◌%◌, ◌≤◌, ◌<◌, eqb, ltb, length, get_or}
-use Rattle.rules.specs.Sizes.{largest_message, header_numbers, row_numbers}
+use Rattle.std.specs.Prelude.{◌≡◌, ◌⊎◌, false, cond, not, ◌||◌, List, [], ◌∷◌, ◌++◌, ℕ, ◌+◌, ◌-◌, ◌/◌, ◌%◌, ◌≤◌, ◌<◌, eqb, ltb, length}
+use Rattle.rules.specs.Sizes.{largest_message}
 use Rattle.rules.specs.Types.{among, is_group}
-use Rattle.rules.specs.Listings.{Message, book, is_message, message_of}
+use Rattle.rules.specs.Listings.{book, is_message, message_of}
 use Rattle.rules.specs.Table.{laid}
 use Rattle.rules.specs.Emitting.{accepted_whole}
 use Rattle.rules.specs.Built.{first_of, rest_of, reasons, any_of, built, late_verdict}

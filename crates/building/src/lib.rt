@@ -1,5 +1,7 @@
 // The builder: a message from a TEID, a sequence number, a table and a buffer of values. The table is tested first, then the message
 // is made on a page of its own, and what the reading says of it decides whether it goes to the room.
+#![tactic(auto)]
+
 ghost use Rattle.std.specs.Prelude.{◌≡◌, [], ◌∷◌, Bool, ◌≤◌, ◌<◌, length, take};
 ghost use Rattle.rules.specs.Listings.{book};
 ghost use Rattle.rules.specs.Octets.{numbers_in};

@@ -4,16 +4,16 @@
 use mathlib.Core.Path.{◌≡◌, refl, sym, ap, ◌∙◌}
 use mathlib.Core.Bool.{Bool, true, false, cond}
 use mathlib.Core.List.{List, [], ◌∷◌}
-use Prim.Native.Nat.{ℕ, ◌*◌, ◌≤◌, ◌<◌}
+use Prim.Native.Nat.{ℕ, ◌*◌, ◌≤◌}
 use native.Mathlib.Omega.{arith}
-use borrow.Author.Tests.{ltb-false, lt-ltb, le-ltb}
+use borrow.Author.Tests.{ltb-false}
 use lib.Dec.{ltb}
 use lib.ListN.{length}
 use Rattle.rules.specs.Sizes.{row_numbers}
 use Rattle.rules.specs.Framing.{octet, message_type}
 use Rattle.rules.specs.Listings.{book}
 use Rattle.rules.specs.Table.{laid}
-use Rattle.rules.specs.Verdicts.{refuses, first, framing_checks, items, short_verdict, lack_verdict, lent_checks, call_verdict}
+use Rattle.rules.specs.Verdicts.{refuses, first, framing_checks, lent_checks, call_verdict}
 use Rattle.rules.specs.Covered.{masked, call_copy}
 use Rattle.rules.specs.Answers.{reading_of, decision_of, Read, Decided}
 use Rattle.rules.specs.declared.Verdict.{Verdict}

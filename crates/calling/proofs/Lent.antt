@@ -3,16 +3,15 @@
 --     lent_is   on a reading          call_lent   the call's verdict by it          lent-passes   what is known where it refuses nothing
 use mathlib.Core.Path.{◌≡◌, refl, sym, ap, ◌∙◌}
 use mathlib.Core.Bool.{Bool, true, false, cond}
-use mathlib.Core.List.{List, [], ◌∷◌, ◌++◌, append_assoc, append-nil}
+use mathlib.Core.List.{List, [], ◌∷◌, append_assoc, append-nil}
 use Prim.Native.Nat.{ℕ, ◌≤◌, ◌<◌}
-use native.Mathlib.Omega.{arith}
 use borrow.Author.Tests.{ltb-false, lt-ltb, le-ltb}
 use lib.Dec.{ltb}
 use lib.ListN.{length}
 use Rattle.rules.specs.Sizes.{used}
 use Rattle.rules.specs.Listings.{book}
 use Rattle.rules.specs.Taking.{body_level}
-use Rattle.rules.specs.Verdicts.{accepted, refused, check, refuses, first, framing_checks, items, copy_check, room_check, table_checks, short_verdict, lack_verdict, lent_checks, call_checks, call_verdict}
+use Rattle.rules.specs.Verdicts.{accepted, refused, check, refuses, first, framing_checks, items, copy_check, room_check, short_verdict, lack_verdict, lent_checks, call_checks, call_verdict}
 use Rattle.rules.specs.Answers.{reading_of, Read}
 use Rattle.rules.specs.declared.Verdict.{Verdict}
 use Rattle.rules.specs.declared.Reading.{Reading}

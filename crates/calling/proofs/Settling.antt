@@ -6,8 +6,7 @@ use mathlib.Core.Bool.{Bool, true, false, cond}
 use mathlib.Core.List.{List}
 use Prim.Native.Nat.{ℕ, ◌*◌, ◌≤◌, ◌<◌}
 use native.Mathlib.Omega.{arith}
-use borrow.Author.Tests.{ltb-false, lt-ltb, le-ltb}
-use lib.Dec.{ltb}
+use borrow.Author.Tests.{lt-ltb, le-ltb}
 use lib.ListN.{length}
 use Rattle.rules.specs.Sizes.{most_rows, row_numbers, used}
 use Rattle.rules.specs.Framing.{message_type}
@@ -18,7 +17,6 @@ use Rattle.rules.specs.Covered.{call_copy}
 use Rattle.rules.specs.Octets.{octets_of, table_room, call_octets}
 use Rattle.rules.specs.Answers.{reading_of, decision_of, Read, Decided, Called, CalledStored}
 use Rattle.rules.specs.declared.Verdict.{Verdict}
-use Rattle.rules.specs.declared.Reading.{Reading}
 use Rattle.rules.specs.declared.Decision.{Decision}
 use Rattle.rules.proofs.Calls.{call_masked, call_judged}
 use Rattle.rules.proofs.Readings.{few}

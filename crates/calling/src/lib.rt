@@ -1,4 +1,6 @@
 // The one call: the verdict on a message, its table and its masked copy, all from one reading of one string of octets.
+#![tactic(auto)]
+
 ghost use Rattle.std.specs.Prelude.{◌≡◌, cond, ◌*◌, ◌≤◌, ltb, length};
 ghost use Rattle.rules.specs.Sizes.{largest_message, row_numbers, used};
 ghost use Rattle.rules.specs.Table.{laid};

@@ -1,15 +1,13 @@
 -- The numbers of the scratch are those of the elements: row by row they agree with the rows as they came. Assumes nothing.
 --     number_is   number by number         agreeing   row by row
-use mathlib.Core.Path.{◌≡◌, sym, ap, ◌∙◌}
-use mathlib.Core.Bool.{Bool, true, false, cond}
-use mathlib.Core.List.{List, []}
+use mathlib.Core.Path.{◌≡◌, sym, ◌∙◌}
+use mathlib.Core.Bool.{true}
+use mathlib.Core.List.{List}
 use Prim.Native.Nat.{ℕ, zero, suc, ◌+◌, ◌-◌, ◌*◌, ◌≤◌, ◌<◌}
 use native.Mathlib.Omega.{arith}
 use lib.ListN.{length, get_or, take, drop, length-drop, get_or-append}
 use lib.Seq.{length-take-le, drop-cons, take-length}
 use Rattle.rules.specs.Sizes.{row_numbers}
-use Rattle.rules.specs.Framing.{octet}
-use Rattle.rules.specs.Types.{is_group}
 use Rattle.rules.specs.Standing.{Item, value_place, value_end}
 use Rattle.rules.specs.Table.{row, rows_of, laid, no_item, nth}
 use Rattle.rules.proofs.Rows.{rows-length, in_rows}

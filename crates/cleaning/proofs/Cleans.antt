@@ -2,17 +2,15 @@
 use mathlib.Core.Path.{◌≡◌, refl, sym, ap, ◌∙◌}
 use mathlib.Core.Bool.{Bool, true, false, cond}
 use mathlib.Core.List.{List, [], ◌∷◌, ◌++◌}
-use Prim.Native.Nat.{ℕ, zero, suc, ◌+◌, ◌-◌, ◌*◌, ◌≤◌, ◌<◌}
+use Prim.Native.Nat.{ℕ, ◌+◌, ◌-◌, ◌*◌, ◌≤◌, ◌<◌}
 use native.Mathlib.Omega.{arith}
-use native.Mathlib.Nat.{add-zero}
 use borrow.Author.Tests.{ltb-false}
 use lib.Dec.{ltb}
 use lib.ListN.{length, get_or, take, drop, length-append, length-take, length-drop}
 use Rattle.rules.specs.Sizes.{most_rows, row_numbers}
 use Rattle.rules.specs.Framing.{header_length}
-use Rattle.rules.specs.Types.{is_group}
 use Rattle.rules.specs.Listings.{book}
-use Rattle.rules.specs.Standing.{Item, value_end, value_place}
+use Rattle.rules.specs.Standing.{Item, value_end}
 use Rattle.rules.specs.Taking.{whole, taken, body_level}
 use Rattle.rules.specs.Table.{row, rows_of, laid, nth}
 use Rattle.rules.specs.Verdicts.{refused, check, refuses, first, framing_checks, items, short_verdict, lack_verdict}
@@ -24,11 +22,11 @@ use Rattle.rules.proofs.Checks.{first_append, both-pass, check-off, AllPass, all
 use Rattle.rules.proofs.Header.{Passed, framed}
 use Rattle.rules.proofs.Readings.{few, refusal_is, count_is, all_laid}
 use Rattle.rules.proofs.Rows.{Octets, octets-drop, Every, every-at, Fits, all_fit, body-met, rows-length, header-least}
-use Rattle.rules.specs.Emitting.{within, sizes, emitted}
+use Rattle.rules.specs.Emitting.{sizes, emitted}
 use Rattle.rules.specs.Cleaned.{pieces, cleaned, clean_checks, clean_verdict, clean_length, clean_copy}
 use Rattle.emitted.proofs.Cleaning.{sizes-fit}
-use Rattle.emitting.specs.Emits.{number, sizes_in, HasRows, RowFit, parts_in, put_rows, over}
-use Rattle.cleaning.specs.Cleaning.{Held, Settles, Settled, size, front_octets, copy_of, room_check}
+use Rattle.emitting.specs.Emits.{number, sizes_in, RowFit, parts_in, over}
+use Rattle.cleaning.specs.Cleaning.{Settles, Settled, size, front_octets, copy_of, room_check}
 use Rattle.rules.specs.declared.Sent.{Sent}
 use Rattle.cleaning.proofs.Bridge.{number_is, agreeing}
 use Rattle.cleaning.proofs.Fronts.{front-laid}

@@ -1,14 +1,14 @@
 -- The header copied and put right, and the body after it, are the cleaned copy laid over the buffer. Assumes nothing.
-use mathlib.Core.Path.{◌≡◌, refl, sym, ap, ◌∙◌}
+use mathlib.Core.Path.{◌≡◌, sym, ap, ◌∙◌}
 use mathlib.Core.List.{List, [], ◌∷◌, ◌++◌, append_assoc}
-use Prim.Native.Nat.{ℕ, zero, suc, ◌+◌, ◌-◌, ◌*◌, ◌/◌, ◌%◌, ◌≤◌, ◌<◌}
+use Prim.Native.Nat.{ℕ, zero, suc, ◌+◌, ◌-◌, ◌/◌, ◌%◌, ◌≤◌}
 use native.Mathlib.Omega.{arith}
-use lib.ListN.{length, get_or, set, take, drop, length-append}
+use lib.ListN.{length, set, take, drop, length-append}
 use lib.Seq.{length-take-le, take_at, drop_at, drop-drop}
 use Rattle.rules.specs.Framing.{octet}
 use Rattle.rules.specs.Table.{laid}
 use Rattle.rules.specs.Emitting.{written}
-use Rattle.emitting.specs.Emits.{valued, over}
+use Rattle.emitting.specs.Emits.{over}
 use Rattle.cleaning.specs.Cleaning.{front_octets}
 
 -- past four octets

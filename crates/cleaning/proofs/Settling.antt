@@ -1,8 +1,8 @@
 -- What is settled: a refusal by the reading, 13, or the copy. Assumes nothing.
-use mathlib.Core.Path.{◌≡◌, refl, sym, ap, ◌∙◌}
+use mathlib.Core.Path.{◌≡◌, refl, ◌∙◌}
 use mathlib.Core.Bool.{Bool, true, false, cond}
 use mathlib.Core.List.{List, [], ◌∷◌}
-use Prim.Native.Nat.{ℕ, zero, suc, ◌+◌, ◌≤◌, ◌<◌}
+use Prim.Native.Nat.{ℕ, zero, suc, ◌≤◌, ◌<◌}
 use native.Mathlib.Omega.{arith}
 use native.Mathlib.Nat.{pos_of_ne-zero}
 use borrow.Author.Tests.{lt-ltb, le-ltb, ltb-false}
@@ -15,7 +15,7 @@ use Rattle.rules.specs.declared.Reading.{Reading}
 use Rattle.rules.specs.declared.Sent.{Sent}
 use Rattle.rules.proofs.Checks.{AllPass, all_pass}
 use Rattle.emitting.specs.Emits.{put_rows}
-use Rattle.cleaning.specs.Cleaning.{size, front_octets, copy_of, room_check, By, Copied, Settled}
+use Rattle.cleaning.specs.Cleaning.{size, front_octets, copy_of, room_check, Copied, Settled}
 
 on : (v : Verdict) → (v.code ≡ 0 → ⊥) → refuses v ≡ true
 on v z = lt-ltb 0 v.code (pos_of_ne-zero z)

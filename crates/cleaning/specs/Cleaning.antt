@@ -1,5 +1,5 @@
 -- What the functions of `cleaning` ask and leave, by the reading and the rows in the scratch. Assumes nothing.
-use Rattle.std.specs.Prelude.{◌≡◌, Bool, true, false, cond, List, [], ◌∷◌, ℕ, ◌+◌, ◌-◌, ◌/◌, ◌%◌, ◌≤◌, ◌<◌, ltb, length, set}
+use Rattle.std.specs.Prelude.{◌≡◌, true, cond, List, [], ◌∷◌, ℕ, ◌+◌, ◌-◌, ◌/◌, ◌%◌, ◌≤◌, ◌<◌, ltb, length, set}
 use Rattle.rules.specs.Framing.{header_length}
 use Rattle.rules.specs.Verdicts.{refused, check, refuses, first}
 use Rattle.rules.specs.declared.Verdict.{Verdict}

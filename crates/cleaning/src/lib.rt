@@ -1,4 +1,6 @@
 // The cleaned copy of a message, to forward: without the rows set aside, at all levels, and with the lengths of groups and header put right.
+#![tactic(auto)]
+
 ghost use Rattle.std.specs.Prelude.{◌≡◌};
 ghost use Rattle.rules.specs.Answers.{Cleans};
 ghost use Rattle.cleaning.specs.Cleaning.{front_octets, Fronted, Held, Copied, Settles, Settled};

@@ -5,7 +5,7 @@ use mathlib.Core.List.{List}
 use Prim.Native.Nat.{ℕ}
 use lib.ListN.{length, take, drop, get_or}
 use denote.Ref.{Bor}
-use Rattle.rules.specs.Values.{table_rows, row_place, desk_span, Stands}
+use Rattle.rules.specs.Values.{table_rows, desk_span, Stands}
 use Rattle.rules.specs.declared.Span.{Span}
 use Rattle.rules.specs.declared.Verdict.{Verdict}
 use Rattle.lookup.specs.Lent.{HasRow, HasRows, desk_by}

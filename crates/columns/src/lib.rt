@@ -1,4 +1,6 @@
 // The table in lines, one a row, with the values that the viewer may see and the row marked that a refusal names.
+#![tactic(auto)]
+
 ghost use Rattle.std.specs.Prelude.{◌≡◌, length};
 ghost use Rattle.rules.specs.Values.{cell};
 ghost use Rattle.lookup.specs.Lent.{Number, HasRow, Asked};

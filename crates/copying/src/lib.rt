@@ -1,4 +1,6 @@
 // The message laid over the start of a copy.
+#![tactic(auto)]
+
 ghost use Rattle.std.specs.Prelude.{◌≡◌};
 ghost use Rattle.copying.specs.Copying.{laid_over};
 

@@ -1,4 +1,6 @@
 // How many rows a message has, before a table is lent for them.
+#![tactic(auto)]
+
 ghost use Rattle.rules.specs.Answers.{Counted};
 
 use rules::Count;

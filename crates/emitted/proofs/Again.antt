@@ -2,19 +2,18 @@
 --     Here       octets stand in a message, from a place on
 --     again      the law, of a forest; rows that were set aside are gone, and parents are numbered by `anew`
 use mathlib.Core.Path.{◌≡◌, refl, sym, ap, ◌∙◌}
-use mathlib.Core.Bool.{Bool, true, false, cond, not}
-use mathlib.Core.List.{List, [], ◌∷◌, ◌++◌, append_assoc, append-nil}
-use Prim.Native.Nat.{ℕ, zero, suc, ◌+◌, ◌-◌, ◌*◌, ◌/◌, ◌%◌, ◌≤◌, ◌<◌}
+use mathlib.Core.Bool.{Bool, true, false, cond}
+use mathlib.Core.List.{List, [], ◌∷◌, ◌++◌, append_assoc}
+use Prim.Native.Nat.{ℕ, suc, ◌+◌}
 use native.Mathlib.Omega.{arith}
 use native.Mathlib.Nat.{add-zero}
 use borrow.Author.Tests.{eqb-true}
-use lib.Dec.{eqb}
-use lib.ListN.{length, take, drop, get_or, length-append}
+use lib.ListN.{length, take, drop}
 use lib.Seq.{take-append_seam, drop-drop, get_or-drop, drop_at}
 use Rattle.rules.specs.Framing.{octet, element_header}
 use Rattle.rules.specs.Types.{is_group}
 use Rattle.rules.specs.Listings.{Book}
-use Rattle.rules.specs.Standing.{Item, fresh, kept, standing, marked, entered, item_of, value_place}
+use Rattle.rules.specs.Standing.{Item, fresh, kept, standing, marked, item_of}
 use Rattle.rules.specs.Met.{Met, ends, alone, group}
 use Rattle.rules.specs.Sound.{sound}
 use Rattle.rules.proofs.Mets.{some-octets}

@@ -2,39 +2,36 @@
 --     build-accepted   16 says so                       build-rows    parents, types, last header octets and values
 --     build-length     the length that 15 measures      instances     a row's instance is the low four bits of its last header octet
 use mathlib.Core.Path.{◌≡◌, refl, sym, ap, ◌∙◌}
-use mathlib.Core.Bool.{Bool, true, false, cond, not, ◌&&◌, ◌||◌}
-use mathlib.Core.List.{List, [], ◌∷◌, ◌++◌, append_assoc, append-nil}
-use Prim.Native.Nat.{ℕ, zero, suc, ◌+◌, ◌-◌, ◌*◌, ◌/◌, ◌%◌, ◌≤◌, ◌<◌}
+use mathlib.Core.Bool.{Bool, true, false, cond, not}
+use mathlib.Core.List.{List, [], ◌∷◌}
+use Prim.Native.Nat.{ℕ, zero, suc, ◌+◌, ◌/◌, ◌%◌, ◌≤◌, ◌<◌}
 use native.Mathlib.Omega.{arith}
-use native.Mathlib.Nat.{add-zero}
-use borrow.Author.Tests.{eqb-true, eq-eqb, ltb-false, not-false}
-
+use borrow.Author.Tests.{eq-eqb, ltb-false, not-false}
 use lib.Dec.{eqb, ltb}
-use lib.ListN.{length, take, drop, get_or, length-append}
+use lib.ListN.{length, drop}
 use Rattle.rules.specs.Sizes.{largest_message}
-use Rattle.rules.specs.Framing.{octet, element_header, flag_t, header_length}
-use Rattle.rules.specs.Types.{among, is_group}
-use Rattle.rules.specs.Listings.{Book, Message, message_of, is_message}
+use Rattle.rules.specs.Framing.{octet, flag_t, header_length}
+use Rattle.rules.specs.Listings.{Book}
 use Rattle.rules.specs.Standing.{Item, fresh, kept, item_of}
-use Rattle.rules.specs.Taking.{whole, taken, body_level}
+use Rattle.rules.specs.Taking.{body_level}
 use Rattle.rules.specs.Values.{row_count, table_type, table_kind, row_standing}
-use Rattle.rules.specs.Verdicts.{refused, check, refuses, first, items}
+use Rattle.rules.specs.Verdicts.{refused, check, refuses, items}
 use Rattle.rules.specs.Met.{Met, ends, alone, group}
 use Rattle.rules.specs.Sound.{sound}
 use Rattle.rules.specs.declared.Verdict.{Verdict}
 use Rattle.rules.proofs.Rows.{Every, every_append, body-met}
 use Rattle.rules.proofs.Checks.{AllPass, all_pass, check-off}
-use Rattle.rules.specs.Emitting.{Piece, stays, sizes, emitted, remaining, written, accepted_whole}
-use Rattle.rules.specs.Cleaned.{received, pieces}
-use Rattle.rules.specs.Built.{headed_checks, build_verdict, built_by, first_of, rest_of, given, givens, given_rows, reasons, any_of, depth_first, has_teid, rest_given, built_length, too_large, built, build_checks, late_verdict, build_length}
-use Rattle.rules.proofs.Reasons.{neither, NoReason, no_reason, RowRight}
-use Rattle.emitted.proofs.Forests.{Forest, grown, grows, grown-size}
-use Rattle.emitted.proofs.Again.{Here, Counts, Kept, again, remaining_in, remaining_nil}
+use Rattle.rules.specs.Emitting.{Piece, sizes, emitted, remaining, written, accepted_whole}
+use Rattle.rules.specs.Cleaned.{pieces}
+use Rattle.rules.specs.Built.{headed_checks, build_verdict, built_by, first_of, rest_of, given, givens, given_rows, depth_first, has_teid, rest_given, built_length, too_large, built, build_checks, late_verdict, build_length}
+use Rattle.rules.proofs.Reasons.{neither, NoReason, no_reason}
+use Rattle.emitted.proofs.Forests.{grown, grows, grown-size}
+use Rattle.emitted.proofs.Again.{Here, Counts, again, remaining_in, remaining_nil}
 use Rattle.emitted.proofs.Runs.{inst-is, value-here, rest-here}
 use Rattle.emitted.proofs.Wholes.{Wholly, accepted-wholly}
 use Rattle.emitted.proofs.Cleaning.{here-from}
 use Rattle.emitted.proofs.Written.{written-body, written-octets}
-use Rattle.emitted.proofs.Parsing.{Sits, AllSit, Whole, parsed}
+use Rattle.emitted.proofs.Parsing.{AllSit, Whole, parsed}
 
 -- ---- instances
 

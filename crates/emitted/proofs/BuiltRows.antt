@@ -3,8 +3,8 @@
 --     BuiltAs     how a row agrees with the row given
 --     built-count, built-kept, built_as    the law
 use mathlib.Core.Path.{◌≡◌, refl, sym, ap, ◌∙◌}
-use mathlib.Core.Bool.{Bool, true, false, cond}
-use mathlib.Core.List.{List, [], ◌∷◌}
+use mathlib.Core.Bool.{true, false}
+use mathlib.Core.List.{List}
 use Prim.Native.Nat.{ℕ, zero, suc, ◌+◌, ◌-◌, ◌%◌, ◌≤◌, ◌<◌}
 use native.Mathlib.Omega.{arith}
 use native.Mathlib.Nat.{add-zero}
@@ -15,14 +15,13 @@ use Rattle.rules.specs.Types.{is_group}
 use Rattle.rules.specs.Listings.{Book}
 use Rattle.rules.specs.Standing.{Item, kept, value_place}
 use Rattle.rules.specs.Table.{kept_rows, nth}
-use Rattle.rules.specs.Values.{row_count, table_type, table_kind, row_parent, row_type, row_instance, row_place, row_length, row_standing}
+use Rattle.rules.specs.Values.{row_count, row_parent, row_type, row_instance, row_place, row_length}
 use Rattle.rules.specs.Verdicts.{refuses, items}
 use Rattle.rules.specs.Sound.{sound}
 use Rattle.rules.specs.Emitting.{Piece}
 use Rattle.rules.specs.Cleaned.{received, pieces}
 use Rattle.rules.specs.Built.{given, givens, given_rows, built, late_verdict}
-use Rattle.rules.proofs.Reasons.{NoReason, RowRight}
-use Rattle.rules.proofs.Rows.{Every, every-at, body-met}
+use Rattle.rules.proofs.Rows.{every-at, body-met}
 use Rattle.rules.proofs.Places.{Ranged, ranged}
 use Rattle.emitted.proofs.Again.{pieces-length}
 use Rattle.emitted.proofs.Cleaning.{here-from}

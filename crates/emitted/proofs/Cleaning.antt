@@ -4,42 +4,37 @@
 --     clean_shorter    it is no longer than the message           clean-first, clean_second, clean-front   its header is the message's, but for the length
 --     clean-twice      cleaning it again changes nothing          clean-same   nor does cleaning a message with every row kept
 use mathlib.Core.Path.{◌≡◌, refl, sym, ap, ◌∙◌}
-use mathlib.Core.Bool.{Bool, true, false, cond, not, ◌&&◌}
-use mathlib.Core.List.{List, [], ◌∷◌, ◌++◌, append_assoc, append-nil}
-use Prim.Native.Nat.{ℕ, zero, suc, ◌+◌, ◌-◌, ◌*◌, ◌/◌, ◌%◌, ◌≤◌, ◌<◌}
+use mathlib.Core.Bool.{Bool, true, false, cond}
+use mathlib.Core.List.{List, [], ◌∷◌, ◌++◌, append-nil}
+use Prim.Native.Nat.{ℕ, suc, ◌+◌, ◌-◌, ◌*◌, ◌/◌, ◌%◌, ◌≤◌, ◌<◌}
 use native.Mathlib.Omega.{arith}
-use native.Mathlib.Nat.{add-zero}
-use borrow.Author.Tests.{eqb-true, eq-eqb, le-ltb}
-
-use lib.Dec.{eqb, ltb}
-use lib.ListN.{length, take, drop, get_or, length-append, length-take, length-drop, length-replicate, take-append-drop}
-use lib.Seq.{length-take-le, take_at, append_snoc, drop-drop}
-use Rattle.rules.specs.Sizes.{largest_message, used}
+use lib.Dec.{eqb}
+use lib.ListN.{length, take, drop, length-append, length-take, length-drop, take-append-drop}
+use lib.Seq.{take_at, append_snoc, drop-drop}
 use Rattle.rules.specs.Framing.{octet, element_header, version, flag_p, flag_t, message_type, length_field, header_length}
 use Rattle.rules.specs.Types.{is_group}
-use Rattle.rules.specs.Listings.{Book, message_of}
-use Rattle.rules.specs.Standing.{Item, fresh, kept, most_lines, item_of, standing, value_place}
-use Rattle.rules.specs.Taking.{Out, cut, whole, taken, body_level, items_in}
+use Rattle.rules.specs.Listings.{Book}
+use Rattle.rules.specs.Standing.{Item, fresh, kept, item_of}
+use Rattle.rules.specs.Taking.{whole, taken, body_level}
 use Rattle.rules.specs.Table.{kept_rows}
-use Rattle.rules.specs.Verdicts.{refused, check, refuses, first, cut_check, short_verdict, short_checks, lack_verdict, lack_checks, header_checks, framing_checks, items, room_check, judge_checks, judge_verdict}
-use Rattle.rules.specs.Met.{At, Met, ends, alone, group}
+use Rattle.rules.specs.Verdicts.{refuses, lack_checks, items}
+use Rattle.rules.specs.Met.{Met, ends, alone, group}
 use Rattle.rules.specs.Sound.{sound}
-use Rattle.rules.specs.declared.Verdict.{Verdict}
 use Rattle.rules.proofs.Heads.{fits, rest-length, value-length}
 use Rattle.rules.proofs.Mets.{met-whole}
 use Rattle.rules.proofs.Covers.{group_type}
-use Rattle.rules.proofs.Rows.{Every, body-met, header-least, Octets, octets-drop}
-use Rattle.rules.proofs.Checks.{AllPass, all_pass, check-off}
-use Rattle.rules.proofs.Header.{Passed, framed}
+use Rattle.rules.proofs.Rows.{body-met, header-least, Octets, octets-drop}
+use Rattle.rules.proofs.Checks.{AllPass}
+use Rattle.rules.proofs.Header.{Passed}
 use Rattle.rules.specs.Emitting.{Piece, stays, size_of, sizes, emitted, remaining, written, amply, accepted_whole}
 use Rattle.rules.specs.Cleaned.{received, pieces, cleaned, renumbered}
-use Rattle.emitted.proofs.Forests.{Forest, grown, grows, grown-size, sizes_append}
-use Rattle.emitted.proofs.Again.{Here, Counts, Kept, again, pieces_append}
+use Rattle.emitted.proofs.Forests.{grown, grows, grown-size, sizes_append}
+use Rattle.emitted.proofs.Again.{Here, Counts, again, pieces_append}
 use Rattle.emitted.proofs.Runs.{Run, Kin, clean_run, fresh-size}
-use Rattle.emitted.proofs.Same.{Same, same-run}
-use Rattle.emitted.proofs.Lacking.{pass-split, pass-join, lacks_too, none_short}
+use Rattle.emitted.proofs.Same.{same-run}
+use Rattle.emitted.proofs.Lacking.{lacks_too}
 use Rattle.emitted.proofs.Wholes.{Amply, amply-accepted, Wholly, wholly-accepted, accepted-wholly}
-use Rattle.emitted.proofs.Written.{written-length, written-body, written-rest, written-octets, passes, Renumbered, renumber}
+use Rattle.emitted.proofs.Written.{written-length, written-body, written-octets, Renumbered, renumber}
 
 -- ---- the numbers of the kept rows
 

@@ -3,27 +3,25 @@
 --     taken-off        a run that begins with it, taken apart
 --     kept-alone, kept-group   a kept element is entered exactly where its type is a group
 use mathlib.Core.Path.{◌≡◌, refl, sym, ap, ◌∙◌}
-use mathlib.Core.Bool.{Bool, true, false, cond, not, ◌&&◌}
+use mathlib.Core.Bool.{Bool, true, false, cond, not}
 use mathlib.Core.List.{List, [], ◌∷◌, ◌++◌}
-use Prim.Native.Nat.{ℕ, zero, suc, ◌+◌, ◌-◌, ◌*◌, ◌/◌, ◌%◌, ◌≤◌, ◌<◌}
+use Prim.Native.Nat.{ℕ, zero, suc, ◌+◌, ◌-◌, ◌%◌, ◌≤◌}
 use native.Mathlib.Omega.{arith}
 use native.Mathlib.Nat.{div-add-mod'}
-use borrow.Author.Tests.{le-leb, eqb-true, eqb-false, eq-eqb, ne_eqb, ltb-true}
-use lib.Dec.{eqb, leb}
+use borrow.Author.Tests.{le-leb, eqb-true, eq-eqb, ne_eqb, ltb-true}
+use lib.Dec.{eqb}
 use lib.ListN.{length, take, drop, get_or, length-append}
-use lib.Seq.{take_at, drop_at, take-append_seam, drop-append_seam}
-use Rattle.rules.specs.Framing.{octet, element_header, value_length, first_octet, head_of}
+use lib.Seq.{drop_at, take-append_seam}
+use Rattle.rules.specs.Framing.{element_header, value_length, first_octet, head_of}
 use Rattle.rules.specs.Types.{is_group}
-use Rattle.rules.specs.Listings.{Book, Line, listing}
+use Rattle.rules.specs.Listings.{Book, listing}
 use Rattle.rules.specs.Standing.{Item, fresh, kept, is_listed, line_in, line_number, standing, marked, entered, item_of}
 use Rattle.rules.specs.Met.{At, Met, ends, alone, group}
 use Rattle.rules.specs.Sound.{sound}
 use Rattle.rules.specs.Frames.{Element, element as read_with, frames_of, seen}
 use Rattle.rules.specs.declared.Head.{Head}
 use Rattle.rules.proofs.Lines.{seek-lists, lists-is, sound-line, line-sound}
-use Rattle.rules.proofs.Mets.{some-octets}
 use Rattle.rules.proofs.Standings.{Case, is_unexpected, is_repeated, is-short, is-kept, is_void, standing_case, entered-inside}
-use Rattle.rules.specs.Emitting.{Piece, head_octets}
 use Rattle.emitted.proofs.Forests.{element}
 
 -- what is read off an element with this value

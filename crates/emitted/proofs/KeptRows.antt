@@ -3,8 +3,8 @@
 --     row-kept_as  the law                          clean-count   and there are no other rows in the copy
 use mathlib.Core.Path.{◌≡◌, refl, sym, ap, ◌∙◌}
 use mathlib.Core.Bool.{Bool, true, false, cond}
-use mathlib.Core.List.{List, [], ◌∷◌, ◌++◌}
-use Prim.Native.Nat.{ℕ, zero, suc, ◌+◌, ◌-◌, ◌≤◌, ◌<◌}
+use mathlib.Core.List.{List, [], ◌∷◌}
+use Prim.Native.Nat.{ℕ, zero, suc, ◌+◌, ◌<◌}
 use native.Mathlib.Omega.{arith}
 use native.Mathlib.Nat.{add-zero}
 use borrow.Author.Tests.{eq-eqb}
@@ -15,8 +15,7 @@ use Rattle.rules.specs.Framing.{octet}
 use Rattle.rules.specs.Types.{is_group}
 use Rattle.rules.specs.Listings.{Book}
 use Rattle.rules.specs.Standing.{Item, kept, value_place}
-use Rattle.rules.specs.Taking.{whole, taken}
-use Rattle.rules.specs.Table.{kept_rows, no_item, nth}
+use Rattle.rules.specs.Table.{kept_rows, nth}
 use Rattle.rules.specs.Verdicts.{refuses, items}
 use Rattle.rules.specs.Emitting.{Piece, stays, remaining, amply}
 use Rattle.rules.specs.Cleaned.{received, pieces, cleaned, renumbered}

@@ -2,14 +2,13 @@
 use mathlib.Core.Path.{◌≡◌, refl, sym, ap, ◌∙◌}
 use mathlib.Core.Bool.{Bool, true, false, cond, not, ◌&&◌, ◌||◌}
 use mathlib.Core.List.{List, [], ◌∷◌, ◌++◌}
-use Prim.Native.Nat.{ℕ, zero, suc, ◌+◌, ◌≤◌, ◌<◌}
+use Prim.Native.Nat.{ℕ, suc, ◌+◌}
 use native.Mathlib.Omega.{arith}
 use borrow.Author.Tests.{eqb-true, eq-eqb, ne_eqb}
-use lib.Dec.{eqb, ltb}
-use lib.ListN.{length}
+use lib.Dec.{eqb}
 use Rattle.rules.specs.Listings.{Book, Line, listing}
 use Rattle.rules.specs.Standing.{Item, kept, short}
-use Rattle.rules.specs.Verdicts.{accepted, check, refuses, first, refused_at, mandatory_missing, short_check, short_checks, is_kept, has_kept, is_mandatory, level_checks, inside_checks, group_checks, lack_checks}
+use Rattle.rules.specs.Verdicts.{check, refuses, refused_at, mandatory_missing, short_checks, is_kept, has_kept, is_mandatory, level_checks, inside_checks, group_checks, lack_checks}
 use Rattle.rules.specs.declared.Verdict.{Verdict}
 use Rattle.rules.proofs.Lines.{and_left, and_right}
 use Rattle.rules.proofs.Checks.{AllPass, check-off}

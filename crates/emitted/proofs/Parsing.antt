@@ -1,17 +1,16 @@
 -- Rows that pass the builder's test of parents are a forest, and rows of a forest pass it. Assumes nothing.
 --     parsed       from the test to the forest                 depth-first   and back
 use mathlib.Core.Path.{◌≡◌, refl, sym, ap, ◌∙◌}
-use mathlib.Core.Bool.{Bool, true, false, cond, not, ◌&&◌, ◌||◌}
+use mathlib.Core.Bool.{Bool, true, false, cond, ◌&&◌}
 use mathlib.Core.List.{List, [], ◌∷◌, ◌++◌, append_assoc, append-nil}
-use Prim.Native.Nat.{ℕ, zero, suc, ◌+◌, ◌-◌, ◌≤◌, ◌<◌}
+use Prim.Native.Nat.{ℕ, zero, suc, ◌+◌, ◌≤◌, ◌<◌}
 use native.Mathlib.Omega.{arith}
 use native.Mathlib.Nat.{add-zero}
-use borrow.Author.Tests.{eqb-true, eqb-false, eq-eqb, ne_eqb}
-
+use borrow.Author.Tests.{eqb-true, eq-eqb, ne_eqb}
 use lib.Dec.{eqb}
 use lib.ListN.{length, length-append}
 use Rattle.rules.specs.Types.{among, is_group}
-use Rattle.rules.proofs.Lines.{and_left, and_right}
+use Rattle.rules.proofs.Lines.{and_right}
 use Rattle.rules.specs.Emitting.{Piece, stays}
 use Rattle.rules.specs.Built.{since, next_open, depth_first}
 use Rattle.emitted.proofs.Forests.{Forest, none, aside, leaf, node}

@@ -1,42 +1,39 @@
 -- An accepted message with every row kept and ignored bits zero, rebuilt from itself, comes back octet for octet. Assumes nothing.
 --     rebuilt           it comes back              rebuilt-accepted   where the room holds it, no check applies
 use mathlib.Core.Path.{◌≡◌, refl, sym, ap, ◌∙◌}
-use mathlib.Core.Bool.{Bool, true, false, cond, not, ◌&&◌, ◌||◌}
-use mathlib.Core.List.{List, [], ◌∷◌, ◌++◌, append_assoc, append-nil}
+use mathlib.Core.Bool.{Bool, true, false}
+use mathlib.Core.List.{List, [], ◌∷◌, ◌++◌}
 use Prim.Native.Nat.{ℕ, zero, suc, ◌+◌, ◌-◌, ◌*◌, ◌/◌, ◌%◌, ◌≤◌, ◌<◌}
 use native.Mathlib.Omega.{arith}
-use native.Mathlib.Nat.{add-zero}
 use native.Mathlib.Decide.{ℕ_discrete}
 use borrow.Author.Tests.{eqb-true, eqb-false, eq-eqb, le-ltb}
-
-use lib.Dec.{eqb, ltb}
+use lib.Dec.{eqb}
 use lib.ListN.{length, take, drop, get_or, length-append, length-drop, get_or-append}
 use lib.Seq.{get_or-append-add, drop-cons, take-length}
 use Rattle.rules.specs.Sizes.{largest_message, header_numbers, row_numbers, used}
-use Rattle.rules.specs.Framing.{octet, element_header, version, flag_p, flag_t, message_type, length_field, header_length}
-use Rattle.rules.specs.Types.{among, is_group}
-use Rattle.rules.specs.Listings.{Book, Message, message_of, is_message}
-use Rattle.rules.specs.Standing.{Item, fresh, kept, value_place, value_end}
+use Rattle.rules.specs.Framing.{octet, version, flag_p, flag_t, message_type, header_length}
+use Rattle.rules.specs.Listings.{Book, message_of}
+use Rattle.rules.specs.Standing.{Item, fresh, kept}
 use Rattle.rules.specs.Taking.{whole, taken, body_level}
 use Rattle.rules.specs.Table.{row, rows_of, kept_rows, header, table_of, no_item, nth}
-use Rattle.rules.specs.Values.{row_count, table_type, table_kind, cell, row_parent, row_type, row_instance, row_place, row_length, row_standing}
-use Rattle.rules.specs.Verdicts.{refused, check, refuses, first, items}
+use Rattle.rules.specs.Values.{row_count, cell, row_place}
+use Rattle.rules.specs.Verdicts.{refused, check, refuses}
 use Rattle.rules.specs.Met.{Met}
 use Rattle.rules.specs.Sound.{sound}
 use Rattle.rules.specs.declared.Verdict.{Verdict}
 use Rattle.rules.proofs.Rows.{Every, every-at, body-met, header-least, in_rows, rows-length, Octets, octets-drop, Fits, all_fit}
 use Rattle.rules.proofs.Header.{Passed}
 use Rattle.rules.proofs.Checks.{AllPass, all_pass, check-off}
-use Rattle.rules.specs.Emitting.{Piece, stays, sizes, emitted, written, accepted_whole}
+use Rattle.rules.specs.Emitting.{Piece, emitted, accepted_whole}
 use Rattle.rules.specs.Cleaned.{received, pieces}
-use Rattle.rules.specs.Built.{first_of, teid_octets, sequence_octets, rest_of, teid_of, sequence_of, ZeroBits, given, givens, given_rows, depth_first, has_teid, built_length, built, build_checks, late_verdict, headed_checks, build_verdict, built_by, reasons, any_of}
+use Rattle.rules.specs.Built.{first_of, rest_of, teid_of, sequence_of, ZeroBits, given, givens, given_rows, depth_first, built_length, built, build_checks, late_verdict, headed_checks, build_verdict, built_by}
 use Rattle.rules.proofs.Reasons.{RowRight, NoReason, none-holds}
-use Rattle.emitted.proofs.Forests.{Forest, grown, grows, grown-size}
+use Rattle.emitted.proofs.Forests.{grows}
 use Rattle.emitted.proofs.Again.{Kept}
 use Rattle.emitted.proofs.Same.{Same, same-run}
 use Rattle.emitted.proofs.Wholes.{Wholly, accepted-wholly, all-kept-rows}
 use Rattle.emitted.proofs.Cleaning.{here-from, written-own, front-body}
-use Rattle.emitted.proofs.Parsing.{Sits, AllSit, depth-first}
+use Rattle.emitted.proofs.Parsing.{AllSit, depth-first}
 use Rattle.emitted.proofs.Building.{instances, made-length}
 
 -- ---- the numbers of a table

@@ -6,21 +6,20 @@
 use mathlib.Core.Path.{◌≡◌, refl, sym, ap, ◌∙◌}
 use mathlib.Core.Bool.{Bool, true, false, cond}
 use mathlib.Core.List.{List, [], ◌∷◌, ◌++◌, append_assoc}
-use Prim.Native.Nat.{ℕ, ◌+◌, ◌*◌, ◌≤◌}
+use Prim.Native.Nat.{ℕ, ◌≤◌}
 use native.Mathlib.Omega.{arith}
-
 use borrow.Author.Tests.{le-ltb, ltb-false}
 use lib.Dec.{ltb}
 use lib.ListN.{length}
 use Rattle.rules.specs.Sizes.{largest_message, most_rows, used}
 use Rattle.rules.specs.Listings.{Book}
 use Rattle.rules.specs.Taking.{body_level}
-use Rattle.rules.specs.Verdicts.{accepted, refused, check, refuses, first, framing_checks, table_checks, short_verdict, lack_verdict, items, room_check, judge_checks, judge_verdict}
+use Rattle.rules.specs.Verdicts.{accepted, refused, check, refuses, first, framing_checks, table_checks, short_verdict, lack_verdict, items, judge_checks, judge_verdict}
 use Rattle.rules.specs.Emitting.{amply}
 use Rattle.rules.specs.Cleaned.{cleaned, is_too_short, clean_checks, clean_verdict, clean_length}
 use Rattle.rules.specs.Sound.{sound}
 use Rattle.rules.specs.declared.Verdict.{Verdict}
-use Rattle.rules.proofs.Checks.{first_append, both-pass, check-off, AllPass, all_pass}
+use Rattle.rules.proofs.Checks.{first_append, check-off, AllPass, all_pass}
 use Rattle.rules.proofs.Header.{framed}
 use Rattle.rules.proofs.Rows.{few-rows}
 use Rattle.emitted.proofs.Wholes.{amply-accepted}

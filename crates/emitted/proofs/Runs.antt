@@ -2,19 +2,19 @@
 --     Kin        the rows of one run are the kept rows of another
 --     clean_run  the law
 use mathlib.Core.Path.{◌≡◌, refl, sym, ap, ◌∙◌}
-use mathlib.Core.Bool.{Bool, true, false, cond, not, ◌&&◌}
-use mathlib.Core.List.{List, [], ◌∷◌, ◌++◌, append_assoc, append-nil}
-use Prim.Native.Nat.{ℕ, zero, suc, ◌+◌, ◌-◌, ◌*◌, ◌/◌, ◌%◌, ◌≤◌, ◌<◌}
+use mathlib.Core.Bool.{Bool, true, false, cond}
+use mathlib.Core.List.{List, [], ◌∷◌, ◌++◌}
+use Prim.Native.Nat.{ℕ, zero, suc, ◌+◌, ◌%◌, ◌≤◌}
 use native.Mathlib.Omega.{arith}
 use native.Mathlib.Nat.{add-zero}
-use borrow.Author.Tests.{eqb-true, eqb-false, eq-eqb, ne_eqb}
+use borrow.Author.Tests.{eqb-true, eq-eqb, ne_eqb}
 use lib.Dec.{eqb}
-use lib.ListN.{length, take, drop, get_or, length-append, length-replicate, take-append-drop, get_or-append}
+use lib.ListN.{length, take, drop, get_or, length-replicate, take-append-drop, get_or-append}
 use lib.Seq.{length-take-le, get_or-take, get_or-drop}
 use Rattle.rules.specs.Framing.{octet, element_header, value_length, first_octet}
 use Rattle.rules.specs.Types.{is_group}
 use Rattle.rules.specs.Listings.{Book}
-use Rattle.rules.specs.Standing.{Item, fresh, kept, most_lines, line_in, is_short, is_over, standing, marked, entered, item_of, value_place}
+use Rattle.rules.specs.Standing.{Item, fresh, kept, most_lines, line_in, is_over, standing, marked, entered, item_of, value_place}
 use Rattle.rules.specs.Met.{At, Met, ends, alone, group}
 use Rattle.rules.specs.Sound.{sound}
 use Rattle.rules.specs.Frames.{Frame, Element}
@@ -25,9 +25,9 @@ use Rattle.rules.proofs.Covers.{group_type, group-long}
 use Rattle.rules.proofs.Frames.{Filled, none as no_frames, frame_in, frames-of, filled_more}
 use Rattle.rules.proofs.Late.{met-directs}
 use Rattle.rules.proofs.Rows.{Every, every_append}
-use Rattle.rules.specs.Emitting.{Piece, stays, remaining}
+use Rattle.rules.specs.Emitting.{Piece}
 use Rattle.rules.specs.Cleaned.{received, pieces}
-use Rattle.emitted.proofs.Forests.{Forest, none, aside, leaf, node, element, grown}
+use Rattle.emitted.proofs.Forests.{Forest, none, aside, leaf, node, grown}
 use Rattle.emitted.proofs.Elements.{head_with, element-at, element-rest, put_alone, put-group, kept-group}
 use Rattle.emitted.proofs.Again.{Here, here-taken, here-front, here_back, here-octet, Counts, counts-split, pieces_append, pieces-length, Kept}
 use Rattle.emitted.proofs.Fewer.{Fewer, Sparser, kept_too, entered_too, fewer-kept, fewer-aside, kept-within, sparser-under, sparser-none, sparser-aside, sparser-past, sparser-kept}

@@ -1,24 +1,23 @@
 -- A run in which every row is kept is what its own rows emit. Assumes nothing.
 use mathlib.Core.Path.{◌≡◌, refl, sym, ap, ◌∙◌}
-use mathlib.Core.Bool.{Bool, true, false, cond, not, ◌&&◌}
-use mathlib.Core.List.{List, [], ◌∷◌, ◌++◌, append_assoc, append-nil}
-use Prim.Native.Nat.{ℕ, zero, suc, ◌+◌, ◌-◌, ◌*◌, ◌/◌, ◌%◌, ◌≤◌, ◌<◌}
+use mathlib.Core.Bool.{true}
+use mathlib.Core.List.{List, [], ◌∷◌, ◌++◌, append_assoc}
+use Prim.Native.Nat.{ℕ, ◌+◌, ◌/◌, ◌%◌, ◌≤◌, ◌<◌}
 use native.Mathlib.Omega.{arith}
-use borrow.Author.Tests.{eqb-true, eq-eqb}
-use lib.Dec.{eqb}
-use lib.ListN.{length, take, drop, get_or, take-append-drop}
+use borrow.Author.Tests.{eq-eqb}
+use lib.ListN.{length, take, drop, take-append-drop}
 use lib.Seq.{take-add}
 use Rattle.rules.specs.Framing.{octet, element_header, value_length}
 use Rattle.rules.specs.Types.{is_group}
 use Rattle.rules.specs.Listings.{Book}
-use Rattle.rules.specs.Standing.{Item, fresh, kept, standing, marked, entered, item_of, value_place}
+use Rattle.rules.specs.Standing.{Item, kept, standing, item_of}
 use Rattle.rules.specs.Met.{At, Met, ends, alone, group}
 use Rattle.rules.specs.Sound.{sound}
 use Rattle.rules.specs.Frames.{Element}
 use Rattle.rules.proofs.Heads.{at_is, at_len, fits, value-length}
 use Rattle.rules.proofs.Covers.{group_type}
 use Rattle.rules.proofs.Rows.{Every, Octets, octets-drop, octets-take}
-use Rattle.rules.specs.Emitting.{Piece, stays, head_octets}
+use Rattle.rules.specs.Emitting.{Piece, head_octets}
 use Rattle.rules.specs.Cleaned.{received, pieces}
 use Rattle.emitted.proofs.Forests.{Forest, none, leaf, node, element, grown}
 use Rattle.emitted.proofs.Again.{Here, pieces_append, pieces-length, Kept, every-split}

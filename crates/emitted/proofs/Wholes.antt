@@ -1,8 +1,8 @@
 -- What it is to be accepted with a table large enough, and to be accepted with every row kept. Assumes nothing.
-use mathlib.Core.Path.{◌≡◌, refl, sym, ap, ◌∙◌}
-use mathlib.Core.Bool.{Bool, true, false, cond, not, ◌&&◌}
-use mathlib.Core.List.{List, [], ◌∷◌, ◌++◌}
-use Prim.Native.Nat.{ℕ, zero, suc, ◌+◌, ◌≤◌, ◌<◌}
+use mathlib.Core.Path.{◌≡◌, refl, ◌∙◌}
+use mathlib.Core.Bool.{Bool, true, false, cond, not}
+use mathlib.Core.List.{List, [], ◌∷◌}
+use Prim.Native.Nat.{ℕ, suc}
 use native.Mathlib.Omega.{arith}
 use borrow.Author.Tests.{eqb-true, eq-eqb, le-ltb, not-true}
 use lib.Dec.{eqb, ltb}
@@ -10,10 +10,9 @@ use lib.ListN.{length}
 use Rattle.rules.specs.Sizes.{used}
 use Rattle.rules.specs.Listings.{Book}
 use Rattle.rules.specs.Standing.{Item, kept}
-use Rattle.rules.specs.Taking.{Out, cut, whole, taken, body_level, items_in}
+use Rattle.rules.specs.Taking.{whole, taken, body_level}
 use Rattle.rules.specs.Table.{kept_rows}
-use Rattle.rules.specs.Verdicts.{accepted, refused, check, refuses, first, cut_check, short_verdict, short_checks, lack_verdict, lack_checks, header_checks, framing_checks, items, room_check, table_checks, judge_checks, judge_verdict}
-use Rattle.rules.specs.declared.Verdict.{Verdict}
+use Rattle.rules.specs.Verdicts.{refused, refuses, cut_check, short_checks, lack_checks, header_checks, framing_checks, items, table_checks, judge_checks}
 use Rattle.rules.proofs.Lines.{and_left, and_right}
 use Rattle.rules.proofs.Rows.{Every, kept-most}
 use Rattle.rules.proofs.Checks.{AllPass, all_pass, check-off}

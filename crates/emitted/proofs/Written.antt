@@ -3,22 +3,21 @@
 --     written-body  what follows the header                  written-length   the length field is right
 --     renumber      rows with their parents numbered anew, and without those set aside, emit the same
 use mathlib.Core.Path.{◌≡◌, refl, sym, ap, ◌∙◌}
-use mathlib.Core.Bool.{Bool, true, false, cond, not, ◌&&◌, ◌||◌, beq}
-use mathlib.Core.List.{List, [], ◌∷◌, ◌++◌, append_assoc}
-use Prim.Native.Nat.{ℕ, zero, suc, ◌+◌, ◌-◌, ◌*◌, ◌/◌, ◌%◌, ◌≤◌, ◌<◌}
+use mathlib.Core.Bool.{Bool, true, false, beq}
+use mathlib.Core.List.{List, [], ◌∷◌, ◌++◌}
+use Prim.Native.Nat.{ℕ, ◌+◌, ◌/◌, ◌%◌}
 use native.Mathlib.Omega.{arith}
 use native.Mathlib.Nat.{add-zero, div-add-mod'}
-use borrow.Author.Tests.{eqb-true, eq-eqb, ne_eqb, le-ltb}
-use lib.Dec.{eqb, ltb}
-use lib.ListN.{length, take, drop, length-append, length-take, length-drop}
-use lib.Seq.{drop-append_seam, take-append_seam, drop-append-add, length-take-le}
+use borrow.Author.Tests.{eq-eqb, ne_eqb, le-ltb}
+use lib.ListN.{length, take, drop, length-append}
+use lib.Seq.{drop-append_seam, take-append_seam, drop-append-add}
 use Rattle.rules.specs.Sizes.{largest_message}
-use Rattle.rules.specs.Framing.{octet, version, flag_p, flag_t, message_type, length_field, header_length}
+use Rattle.rules.specs.Framing.{message_type, length_field, header_length}
 use Rattle.rules.specs.Types.{is_group}
-use Rattle.rules.specs.Listings.{Book, Message, message_of}
-use Rattle.rules.specs.Verdicts.{refused, check, refuses, first, header_checks}
+use Rattle.rules.specs.Listings.{Book, message_of}
+use Rattle.rules.specs.Verdicts.{refused, check, refuses, header_checks}
 use Rattle.rules.specs.declared.Verdict.{Verdict}
-use Rattle.rules.proofs.Checks.{AllPass, all_pass, check-off}
+use Rattle.rules.proofs.Checks.{AllPass, check-off}
 use Rattle.rules.proofs.Header.{Passed}
 use Rattle.rules.specs.Emitting.{Piece, stays, remaining, written}
 use Rattle.emitted.proofs.Forests.{Forest, none, aside, leaf, node, element, grown}

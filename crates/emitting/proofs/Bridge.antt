@@ -5,7 +5,7 @@
 use mathlib.Core.Path.{◌≡◌, refl, sym, ap, ◌∙◌}
 use mathlib.Core.Bool.{Bool, true, false, cond}
 use mathlib.Core.List.{List, [], ◌∷◌, ◌++◌}
-use Prim.Native.Nat.{ℕ, zero, suc, ◌+◌, ◌-◌, ◌*◌, ◌≤◌, ◌<◌}
+use Prim.Native.Nat.{ℕ, zero, suc, ◌+◌, ◌-◌, ◌≤◌, ◌<◌}
 use native.Mathlib.Omega.{arith}
 use native.Mathlib.Nat.{add-zero}
 use lib.Dec.{eqb, ltb}
@@ -14,7 +14,7 @@ use Rattle.rules.specs.Framing.{element_header}
 use Rattle.rules.specs.Types.{is_group}
 use Rattle.rules.specs.Standing.{kept}
 use Rattle.rules.specs.Emitting.{Piece, stays, size_of, sizes, within, head_octets, length_of, emitted}
-use Rattle.emitting.specs.Emits.{number, size_at_row, sizes_in, within_rows, inside_in, length_in, last_in, value_in, part_within, parts_in}
+use Rattle.emitting.specs.Emits.{number, size_at_row, sizes_in, within_rows, inside_in, length_in, last_in, value_in, parts_in}
 
 -- what pieces emit has their sizes
 pub emitted-size : (n : ℕ) (ps : List Piece) → length (emitted n ps) ≡ sizes ps

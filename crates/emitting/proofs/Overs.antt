@@ -1,17 +1,16 @@
 -- Octets laid over a part of a buffer: a row after a row. Assumes nothing.
 use mathlib.Core.Path.{◌≡◌, refl, sym, ap, ◌∙◌}
-use mathlib.Core.Bool.{Bool, true, false, cond}
-use mathlib.Core.List.{List, [], ◌∷◌, ◌++◌, append_assoc, append-nil}
-use Prim.Native.Nat.{ℕ, zero, suc, ◌+◌, ◌-◌, ◌*◌, ◌/◌, ◌%◌, ◌≤◌, ◌<◌}
+use mathlib.Core.Bool.{Bool, true, false}
+use mathlib.Core.List.{List, [], ◌++◌, append_assoc, append-nil}
+use Prim.Native.Nat.{ℕ, suc, ◌+◌, ◌-◌, ◌≤◌, ◌<◌}
 use native.Mathlib.Omega.{arith}
 use native.Mathlib.Nat.{add-zero}
 use borrow.Author.Tests.{eq-eqb, ne_eqb}
-use lib.Dec.{eqb}
-use lib.ListN.{length, get_or, take, drop, length-append, length-take, length-drop, take-append-drop}
-use lib.Seq.{length-take-le, take-append-add, drop-append-add, take_at, drop_at, drop-drop}
+use lib.ListN.{length, take, drop, length-append, length-drop, take-append-drop}
+use lib.Seq.{length-take-le, take_at, drop_at, drop-drop}
 use Rattle.rules.specs.Types.{is_group}
 use Rattle.rules.specs.Emitting.{head_octets}
-use Rattle.emitting.specs.Emits.{number, length_in, inside_in, last_in, headed, valued, value_in, part_within, parts_in, over, HasRows, RowFit, PutsRow, PutRow, PutsRows, Heading, Valued}
+use Rattle.emitting.specs.Emits.{number, length_in, inside_in, last_in, headed, valued, part_within, parts_in, over, PutsRow, PutRow, PutsRows, Heading, Valued}
 
 pub over_none : (out : List ℕ) (at : ℕ) → out ≡ over out at []
 over_none out at = let e : at + 0 ≡ at = add-zero at in rw e (sym (take-append-drop at out))

@@ -1,4 +1,6 @@
 // Rows of six numbers written out as octets, in order: a row set aside is left out, and a group's length is what its kept inside takes.
+#![tactic(auto)]
+
 ghost use Rattle.std.specs.Prelude.{◌≡◌, ◌+◌, ◌*◌, ◌≤◌, ◌<◌, length};
 ghost use Rattle.rules.specs.Types.{is_group};
 ghost use Rattle.facts.specs.Facts.{facts};

@@ -1,5 +1,7 @@
 // What the rules say of a type number. The least value length is a decision over ranges of the number; groups and the cover are a table with four
 // types an octet, the first in the lowest bits: 0 nothing, 1 covered whole, 2 covered but for the first octet, 3 a group.
+#![tactic(auto)]
+
 ghost use Rattle.std.specs.Prelude.{◌≡◌};
 ghost use Rattle.rules.specs.Types.{least_of};
 ghost use Rattle.facts.specs.Facts.{facts, Figure, Takes, below79, between, above95, least_by, mark_in, group_in, open_in};

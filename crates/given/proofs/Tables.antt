@@ -1,8 +1,8 @@
 -- The numbers of a table, wherever they stand, and what its tests tell. Assumes nothing.
 use mathlib.Core.Path.{◌≡◌, refl, sym, ap, ◌∙◌}
-use mathlib.Core.Bool.{Bool, true, false, cond, not}
-use mathlib.Core.List.{List, [], ◌∷◌, ◌++◌, append-nil}
-use Prim.Native.Nat.{ℕ, zero, suc, ◌+◌, ◌-◌, ◌*◌, ◌/◌, ◌≤◌, ◌<◌}
+use mathlib.Core.Bool.{Bool, true, false}
+use mathlib.Core.List.{List, [], ◌++◌, append-nil}
+use Prim.Native.Nat.{ℕ, ◌+◌, ◌-◌, ◌*◌, ◌/◌, ◌≤◌, ◌<◌}
 use native.Mathlib.Omega.{arith}
 use borrow.Author.Tests.{leb-true, leb-false}
 use lib.Dec.{leb}
@@ -11,9 +11,8 @@ use lib.Seq.{get_or-append-add, get_or-set_same, get_or-set_other}
 use native.Mathlib.Decide.{ℕ_discrete}
 use Rattle.rules.specs.Sizes.{header_numbers, used}
 use Rattle.rules.specs.Types.{is_group}
-use Rattle.rules.specs.Standing.{kept}
 use Rattle.rules.specs.Octets.{numbers_in}
-use Rattle.rules.specs.Values.{row_count, cell, row_parent, row_type, row_instance, row_place, row_length, row_standing}
+use Rattle.rules.specs.Values.{row_count, row_type, row_instance, row_place, row_length, row_standing}
 use Rattle.rules.proofs.Numbers.{numbers-length, numbers-at}
 use Rattle.rules.proofs.Reasons.{RowRight, NoReason}
 use Rattle.emitting.specs.Emits.{Wide}

@@ -1,5 +1,5 @@
 -- What the tests of a table ask and tell, by its numbers, which stand in a run of numbers and in octets after those. Assumes nothing.
-use Rattle.std.specs.Prelude.{◌≡◌, Bool, true, false, cond, List, [], ◌∷◌, ◌++◌, ℕ, ◌+◌, ◌*◌, ◌≤◌, ◌<◌, length, get_or}
+use Rattle.std.specs.Prelude.{◌≡◌, Bool, true, false, cond, List, [], ◌∷◌, ◌++◌, ℕ, ◌+◌, ◌≤◌, ◌<◌, length, get_or}
 use Rattle.rules.specs.Sizes.{header_numbers, used}
 use Rattle.rules.specs.Types.{among, is_group}
 use Rattle.rules.specs.Octets.{numbers_in}

@@ -1,4 +1,6 @@
 // The table that is given: its numbers, and the reasons of 14. Its numbers stand in a run of numbers and in octets after those; one of the two is empty.
+#![tactic(auto)]
+
 ghost use Rattle.std.specs.Prelude.{◌≡◌, Bool, ◌+◌, ◌*◌, ◌≤◌, ◌<◌, length, get_or, []};
 ghost use Rattle.facts.specs.Facts.{facts};
 ghost use Rattle.rules.proofs.Reasons.{RowRight, NoReason};

@@ -1,8 +1,8 @@
 -- The parts of contracts over a message's header. Assumes nothing.
-use Rattle.std.specs.Prelude.{◌≡◌, Bool, true, cond, List, ℕ, ◌≤◌, ◌<◌, length}
+use Rattle.std.specs.Prelude.{◌≡◌, true, cond, List, ℕ, ◌≤◌, ◌<◌, length}
 use Rattle.rules.specs.Framing.{message_type, length_field, header_length}
 use Rattle.rules.specs.Types.{among}
-use Rattle.rules.specs.Listings.{Message, book, seek_message, is_message, message_of}
+use Rattle.rules.specs.Listings.{book, seek_message, is_message, message_of}
 use Rattle.rules.specs.Taking.{body_level}
 use Rattle.rules.proofs.Rows.{Octets}
 

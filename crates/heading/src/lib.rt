@@ -1,6 +1,8 @@
 // The header of a message: checks 1 to 8 with 21, where the elements begin, and the level that they are read by. The checks ask for a message's first
 // four octets and its length and no more, so that it does not matter whether the rest is at hand. These are no entry points: a function
 // here may ask for what its callers show.
+#![tactic(auto)]
+
 ghost use Rattle.std.specs.Prelude.{◌≡◌, ◌<◌, ◌≤◌, length, get_or};
 ghost use Rattle.std.specs.Bool.{beq};
 ghost use Rattle.rules.specs.Framing.{version, flag_p, flag_t};

@@ -2,7 +2,7 @@
 --     most-rows   rows in any case          ready   on acceptance
 use mathlib.Core.Path.{◌≡◌, refl, sym, ap, ◌∙◌}
 use mathlib.Core.Bool.{false}
-use mathlib.Core.List.{List, [], ◌∷◌, ◌++◌}
+use mathlib.Core.List.{List}
 use Prim.Native.Nat.{ℕ, ◌*◌, ◌≤◌}
 use native.Mathlib.Omega.{arith}
 use borrow.Author.Tests.{ltb-false}
@@ -14,7 +14,7 @@ use Rattle.rules.specs.Framing.{message_type}
 use Rattle.rules.specs.Listings.{book}
 use Rattle.rules.specs.Table.{rows_of, kept_rows, header, table_of, numbers_by, laid}
 use Rattle.rules.specs.Verdicts.{refused, refuses, first, framing_checks, table_checks, judge_checks, judge_verdict, items}
-use Rattle.rules.specs.Answers.{reading_of, Read}
+use Rattle.rules.specs.Answers.{Read}
 use Rattle.rules.specs.declared.Reading.{Reading}
 use Rattle.rules.proofs.Checks.{both-pass, check-off, AllPass, all_pass}
 use Rattle.rules.proofs.Rows.{rows-length, kept-most}

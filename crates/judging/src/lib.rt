@@ -1,4 +1,6 @@
 // What is made of a reading: the verdict by checks 1 to 12 for a table of some room, and the table.
+#![tactic(auto)]
+
 ghost use Rattle.std.specs.Prelude.{◌≡◌, [], ◌∷◌, ◌++◌, ◌+◌, ◌≤◌, length, drop};
 ghost use Rattle.std.proofs.Math.Seq.{paste};
 ghost use Rattle.rules.specs.Sizes.{largest_message, used};

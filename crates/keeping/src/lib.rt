@@ -1,4 +1,6 @@
 // A state of the pieces form as octets that a caller keeps: each part of it at a place of its own, numbers high octet first.
+#![tactic(auto)]
+
 ghost use Rattle.std.specs.Prelude.{◌≡◌, [], ◌∷◌, ◌+◌, ◌≤◌, length};
 ghost use Rattle.std.proofs.lemmas.List.Edits.{sets};
 ghost use Rattle.keeping.specs.Kept.{state_size, flag_of, eight_of, run, number_of, number_at, Read, open_octets, start_octets, counts_octets, walk_octets, watch_octets, open_at, counts_at, walk_in, fields_in, kept_in, state_in};

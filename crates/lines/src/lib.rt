@@ -1,4 +1,6 @@
 // What the judge program writes: a line for a refusal, or a line of counts and a line a row.
+#![tactic(auto)]
+
 ghost use Rattle.std.specs.Prelude.{◌++◌, ◌*◌, ◌≤◌, ◌<◌, length};
 ghost use Rattle.rules.specs.Program.{blanked, line, Written};
 ghost use Rattle.wording.specs.Puts.{Puts};

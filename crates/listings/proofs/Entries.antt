@@ -1,6 +1,6 @@
 -- Each part of a line's number says what the line does: the parts are bits that do not overlap. Assumes nothing.
 --     must-in, many-in, on_in, skip-in, inside-in, limited-in   the parts          lists-in   whether the line lists a pair
-use mathlib.Core.Path.{◌≡◌, refl, sym, ap, ◌∙◌}
+use mathlib.Core.Path.{◌≡◌, refl}
 use mathlib.Core.Bool.{Bool, true, false, cond, not, ◌&&◌, ◌||◌}
 use Prim.Native.Nat.{ℕ, ◌+◌, ◌*◌, ◌/◌, ◌%◌, ◌≤◌, ◌<◌}
 use native.Mathlib.Omega.{arith}

@@ -4,11 +4,11 @@ use mathlib.Core.Path.{◌≡◌, refl, sym, ap, ◌∙◌}
 use mathlib.Core.Bool.{Bool, true, false, cond}
 use mathlib.Core.List.{List, [], ◌∷◌, ◌++◌}
 use Prim.Native.Nat.{ℕ, zero, suc, ◌+◌, ◌-◌, ◌≤◌, ◌<◌}
-use native.Mathlib.Nat.{add-zero, zero-add, add_assoc}
+use native.Mathlib.Nat.{add-zero, add_assoc}
 use native.Mathlib.Numerals.{add-one}
 use native.Mathlib.Omega.{arith}
 use lib.ListN.{length, get_or, take, drop, length-append, length-drop, get_or-append}
-use lib.Seq.{get_or-append-add, take_at, drop-append-add}
+use lib.Seq.{take_at, drop-append-add}
 use Rattle.rules.specs.Listings.{Line, Book, empty_line, levels, book, listing}
 use Rattle.rules.specs.Standing.{most_lines}
 use Rattle.rules.proofs.Lines.{SoundLine, level-size, line-sound, sound-line}

@@ -1,6 +1,6 @@
 -- The listings as one table of numbers: where each level begins in it, and after the last its end; then a number for each line, level after
 -- level. Assumes nothing.
-use Rattle.std.specs.Prelude.{Bool, true, false, cond, not, ◌&&◌, ◌||◌, List, [], ◌∷◌, ◌++◌, ℕ, zero, suc, ◌+◌, ◌*◌, ◌/◌, ◌%◌, eqb, length}
+use Rattle.std.specs.Prelude.{Bool, cond, not, ◌&&◌, ◌||◌, List, [], ◌∷◌, ◌++◌, ℕ, suc, ◌+◌, ◌*◌, ◌/◌, ◌%◌, eqb, length}
 use Rattle.rules.specs.Types.{among}
 use Rattle.rules.specs.Listings.{Line, Book}
 use Rattle.rules.specs.Sound.{is_free}

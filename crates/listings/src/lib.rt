@@ -1,5 +1,7 @@
 // The listings as one constant table: where each level begins, and all lines, level after level, a number each. A constant is laid
 // down anew at each use: a caller takes the table once, and lends it.
+#![tactic(auto)]
+
 ghost use Rattle.std.specs.Prelude.{◌≡◌};
 ghost use Rattle.rules.specs.Listings.{book};
 ghost use Rattle.listings.specs.Data.{numbers_of};

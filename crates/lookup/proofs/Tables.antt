@@ -9,10 +9,9 @@ use native.Mathlib.Omega.{arith}
 use borrow.Author.Tests.{ltb-false, eqb-true}
 use lib.Dec.{eqb, ltb}
 use lib.ListN.{length, get_or}
-use Rattle.rules.specs.Sizes.{header_numbers, row_numbers, used}
+use Rattle.rules.specs.Sizes.{header_numbers, used}
 use Rattle.rules.specs.Framing.{octet}
-use Rattle.rules.specs.Standing.{kept}
-use Rattle.rules.specs.Values.{row_standing, row_count, table_type, table_kind, reads_as_cut, standing_kept, disagrees, is_of, table_rows}
+use Rattle.rules.specs.Values.{row_standing, row_count, table_type, table_kind, reads_as_cut, standing_kept, is_of, table_rows}
 use Rattle.lookup.specs.Lent.{HasRows, headed}
 
 -- ---- the header

@@ -1,6 +1,8 @@
 // Reading a value: the desk's lookup and the plain lookup. A table may hold anything at all, so nothing in it is believed before it
 // is tested, and its 16-bit numbers are widened before they are summed. Whether it is a table of the message on the kind reads every row's standing, so that
 // is looked at once a call.
+#![tactic(auto)]
+
 ghost use Rattle.std.specs.Prelude.{◌≡◌, cond, length};
 ghost use Rattle.rules.specs.Values.{standing_kept, is_of, table_rows, cell, nowhere, is_plain, seek_plain, plain_span, Stands};
 ghost use Rattle.rules.specs.Answers.{Plain, PlainFound, Desk, DeskFound};

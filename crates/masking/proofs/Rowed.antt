@@ -6,7 +6,7 @@ use mathlib.Core.List.{List, [], ◌∷◌, ◌++◌}
 use Prim.Native.Nat.{ℕ, zero, suc, ◌+◌, ◌*◌, ◌≤◌, ◌<◌}
 use native.Mathlib.Omega.{arith}
 use lib.ListN.{length, take, get_or, length-append, get_or-append}
-use lib.Seq.{get_or-append-add, take-suc, take-length}
+use lib.Seq.{take-suc, take-length}
 use Rattle.rules.specs.Sizes.{largest_message, row_numbers}
 use Rattle.rules.specs.Standing.{Item}
 use Rattle.rules.specs.Table.{row, rows_of, laid, no_item, nth}

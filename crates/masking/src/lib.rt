@@ -1,4 +1,6 @@
 // The masked copy: a copy of a message in which every covered octet is 0, each value cleared in its own part of the copy.
+#![tactic(auto)]
+
 ghost use Rattle.std.specs.Prelude.{◌≡◌, ◌+◌, ◌-◌, ◌≤◌, length, replicate};
 ghost use Rattle.rules.specs.Frames.{frames_of};
 ghost use Rattle.rules.specs.Covered.{zeroed, inside_cleared};

@@ -1,4 +1,6 @@
 // The part of a buffer that a program writes.
+#![tactic(auto)]
+
 ghost use Rattle.output.specs.Parts.{First};
 
 // The first `n` octets of `text`, or all of them if it has fewer.

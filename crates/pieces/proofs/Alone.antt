@@ -1,15 +1,15 @@
 -- An element that is counted by itself leaves its row as six numbers, and what it counts is added: the same as if it were counted with the others.
 -- Assumes nothing.
 --     counts-joined   what it counts          row-alone   its row          row_put   the same row, where it belongs
-use mathlib.Core.Path.{◌≡◌, refl, sym, ap, ◌∙◌}
+use mathlib.Core.Path.{◌≡◌, refl, ◌∙◌}
 use mathlib.Core.Bool.{Bool, true, false, cond}
 use mathlib.Core.List.{List, [], ◌∷◌}
 use Prim.Native.Nat.{ℕ, zero, suc, ◌+◌, ◌-◌, ◌*◌, ◌≤◌}
 use native.Mathlib.Omega.{arith}
 use lib.Dec.{eqb, ltb, leb}
-use lib.ListN.{length, get_or, set, length-set}
+use lib.ListN.{length, set, length-set}
 use Rattle.rules.specs.Sizes.{row_numbers}
-use Rattle.rules.specs.Standing.{Item, kept, void, value_place}
+use Rattle.rules.specs.Standing.{Item, kept, void}
 use Rattle.rules.specs.Table.{row}
 use Rattle.taking.specs.Held.{short_of, counted, count, put_numbers, put_row}
 use Rattle.taking.specs.declared.Counts.{Counts}

@@ -2,14 +2,12 @@
 use mathlib.Core.Path.{◌≡◌, sym, ap, ◌∙◌}
 use mathlib.Core.Bool.{true, false}
 use mathlib.Core.List.{List}
-use Prim.Native.Nat.{ℕ, ◌+◌, ◌<◌}
-use native.Mathlib.Omega.{arith}
+use Prim.Native.Nat.{ℕ, ◌+◌}
 use borrow.Author.Tests.{eq-eqb, ne_eqb}
 use lib.Dec.{eqb}
-use lib.ListN.{length}
 use Rattle.rules.specs.Framing.{length_field, header_length}
 use Rattle.rules.specs.Listings.{book}
-use Rattle.rules.specs.Verdicts.{opening_checks, refuses, first}
+use Rattle.rules.specs.Verdicts.{opening_checks, first}
 use Rattle.rules.specs.declared.Verdict.{Verdict}
 use Rattle.answers.proofs.Refusing.{refusing}
 use Rattle.taking.specs.Held.{no_counts}

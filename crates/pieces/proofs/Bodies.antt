@@ -1,16 +1,16 @@
 -- The elements begin in a state that fits. Assumes nothing.
-use mathlib.Core.Path.{◌≡◌, refl, sym, ap, ◌∙◌}
-use mathlib.Core.Bool.{Bool, true, false, cond, not, ◌&&◌, ◌||◌, beq}
-use mathlib.Core.List.{List, [], ◌∷◌}
+use mathlib.Core.Path.{◌≡◌, refl, sym, ◌∙◌}
+use mathlib.Core.Bool.{Bool, true, false, cond, ◌||◌}
+use mathlib.Core.List.{List}
 use Prim.Native.Nat.{ℕ, zero, suc, ◌+◌, ◌-◌, ◌≤◌, ◌<◌}
 use native.Mathlib.Omega.{arith}
-use borrow.Author.Tests.{ltb-true, ltb-false, eqb-true, eqb-false, not-false}
-use lib.Dec.{eqb, ltb}
+use borrow.Author.Tests.{ltb-false, not-false}
+use lib.Dec.{eqb}
 use lib.ListN.{length, replicate}
 use Rattle.rules.specs.Sizes.{largest_message}
-use Rattle.rules.specs.Framing.{version, flag_p, flag_t, message_type, length_field, header_length}
+use Rattle.rules.specs.Framing.{message_type, length_field, header_length}
 use Rattle.rules.specs.Types.{among}
-use Rattle.rules.specs.Listings.{Book, Message, book, no_message, seek_message, is_message, message_of}
+use Rattle.rules.specs.Listings.{book, seek_message, is_message, message_of}
 use Rattle.rules.specs.Taking.{body_level}
 use Rattle.rules.specs.Verdicts.{opening_checks, refused, check, refuses, first}
 use Rattle.rules.specs.declared.Verdict.{Verdict}
@@ -19,12 +19,9 @@ use Rattle.taking.specs.Held.{no_counts, Few}
 use Rattle.taking.specs.declared.Counts.{Counts}
 use Rattle.listings.proofs.Levels.{depth}
 use Rattle.heading.proofs.Messages.{listed-low, body-level}
-use Rattle.pieces.specs.declared.Open.{Open}
-use Rattle.pieces.specs.declared.Going.{Going}
 use Rattle.pieces.specs.Depth.{deepest}
-use Rattle.pieces.specs.Steps.{opened}
 use Rattle.pieces.specs.Coded.{blank_open, settle_top, idle_by, entry_by, body_by}
-use Rattle.pieces.specs.Fits.{Slot, EachSlot, lefts, Sized, Waiting, Fits}
+use Rattle.pieces.specs.Fits.{Slot, EachSlot, Sized, Fits}
 use Rattle.pieces.proofs.Fits.{settle-fits}
 
 -- what a header says that passes checks 1 to 8 for n octets

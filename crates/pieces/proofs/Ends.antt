@@ -2,7 +2,7 @@
 use mathlib.Core.Path.{◌≡◌, refl, sym, ap, ◌∙◌}
 use mathlib.Core.Bool.{Bool, true, false, cond}
 use mathlib.Core.List.{List, [], ◌∷◌, ◌++◌, append-nil}
-use Prim.Native.Nat.{ℕ, ◌+◌, ◌-◌, ◌≤◌, ◌<◌}
+use Prim.Native.Nat.{ℕ, ◌-◌, ◌≤◌, ◌<◌}
 use native.Mathlib.Omega.{arith}
 use borrow.Author.Tests.{ltb-true, ltb-false}
 use lib.Dec.{ltb}
@@ -10,23 +10,19 @@ use lib.ListN.{length, take, drop, drop_of_length-le, length-drop, length-replic
 use lib.Seq.{take_all}
 use Rattle.rules.specs.Sizes.{header_numbers, used}
 use Rattle.rules.specs.Framing.{octet, message_type}
-use Rattle.rules.specs.Types.{among}
-use Rattle.rules.specs.Listings.{book}
 use Rattle.rules.specs.Answers.{refused_reading}
-use Rattle.rules.specs.Verdicts.{opening_checks, accepted, refused, refused_at, check, refuses, first}
+use Rattle.rules.specs.Verdicts.{accepted, refused, refused_at, check, refuses, first}
 use Rattle.rules.specs.declared.Verdict.{Verdict}
 use Rattle.rules.specs.declared.Reading.{Reading}
 use Rattle.rules.proofs.Checks.{AllPass, all_pass, check-off}
 use Rattle.rules.proofs.Book.{kind-low}
 use Rattle.answers.proofs.Refusing.{refusing}
-use Rattle.taking.specs.Held.{no_counts}
 use Rattle.reading.specs.Scan.{whole_reading}
 use Rattle.judging.specs.Judging.{given}
-use Rattle.pieces.specs.declared.Going.{Going}
 use Rattle.pieces.specs.declared.Pieces.{Pieces}
 use Rattle.pieces.specs.declared.Told.{Told}
 use Rattle.pieces.specs.Feeding.{zeros}
-use Rattle.pieces.specs.Coded.{idle_by, feed_all_by}
+use Rattle.pieces.specs.Coded.{feed_all_by}
 use Rattle.pieces.specs.Answers.{takes, told_out, start_of, Started, part_told, part_table, Parted, ended_by, header_by, reading_by, verdict_by, end_told, end_table, Ended}
 use Rattle.pieces.specs.Agreements.{From, GaveAll}
 use Rattle.pieces.proofs.Accepting.{accepting, cond_yes, cond_no}

@@ -1,26 +1,25 @@
 -- What is held after the octets p of a message is what a formula over p says, so the cutting into parts does not matter. Assumes nothing.
 --     feed-on     one octet more          fed-is     after all octets          parts-are     after all parts
 use mathlib.Core.Path.{◌≡◌, refl, sym, ap, ◌∙◌}
-use mathlib.Core.Bool.{Bool, true, false, cond, not, ◌&&◌, ◌||◌, beq}
+use mathlib.Core.Bool.{Bool, true, false, cond}
 use mathlib.Core.List.{List, [], ◌∷◌, ◌++◌, append_assoc, append-nil}
-use Prim.Native.Nat.{ℕ, zero, suc, ◌+◌, ◌-◌, ◌*◌, ◌≤◌, ◌<◌}
+use Prim.Native.Nat.{ℕ, suc, ◌-◌, ◌≤◌, ◌<◌}
 use native.Mathlib.Omega.{arith}
 use native.Mathlib.Nat.{pos_of_ne-zero}
-use native.Mathlib.Decide.{dec_lt}
-use borrow.Author.Tests.{ltb-true, ltb-false, eqb-true, eqb-false, lt-ltb, le-ltb, eq-eqb, ne_eqb}
+use borrow.Author.Tests.{ltb-true, ltb-false, eqb-true, eqb-false, lt-ltb, le-ltb}
 use lib.Dec.{eqb, ltb}
-use lib.ListN.{length, get_or, take, drop, length-append, length-take, length-drop, drop_of_length-le, get_or-append}
+use lib.ListN.{length, take, drop, length-append, drop_of_length-le, get_or-append}
 use lib.Seq.{get_or-take, take_all, take-append-le, drop-append-le}
 use Rattle.rules.specs.Sizes.{largest_message}
 use Rattle.rules.specs.Framing.{octet, version, flag_p, flag_t, message_type, length_field, header_length}
-use Rattle.rules.specs.Listings.{Book, Message, book, message_of}
+use Rattle.rules.specs.Listings.{Book, book, message_of}
 use Rattle.rules.specs.Taking.{body_level}
 use Rattle.rules.specs.Verdicts.{opening_checks, header_checks}
 use Rattle.rules.proofs.Rows.{header-least}
-use Rattle.pieces.specs.Steps.{Walking, stopped, going, eat, eat_all, begin, outcome}
+use Rattle.pieces.specs.Steps.{Walking, eat, eat_all}
 use Rattle.pieces.specs.Depth.{deepest}
 use Rattle.pieces.specs.Drafts.{Draft, one_draft, shut_draft, draft_rows}
-use Rattle.pieces.specs.Feeding.{head_octets, count_on, Feed, idle, out_held, body, head_on, in_header, feed, feed_all, feed_parts, joined_parts}
+use Rattle.pieces.specs.Feeding.{count_on, Feed, idle, body, head_on, in_header, feed, feed_all, feed_parts, joined_parts}
 use Rattle.pieces.proofs.Steps.{cut_anywhere}
 
 -- ---- the header is in the first four octets

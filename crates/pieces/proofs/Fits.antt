@@ -1,32 +1,31 @@
 -- Each step leads from a state that fits to one that does. Assumes nothing.
-use mathlib.Core.Path.{◌≡◌, refl, sym, ap, ◌∙◌}
+use mathlib.Core.Path.{◌≡◌, refl, ◌∙◌}
 use mathlib.Core.Bool.{Bool, true, false, cond, ◌&&◌}
 use mathlib.Core.List.{List, [], ◌∷◌}
 use Prim.Native.Nat.{ℕ, zero, suc, ◌+◌, ◌-◌, ◌≤◌, ◌<◌}
 use native.Mathlib.Omega.{arith}
 use native.Mathlib.Nat.{pos_of_ne-zero}
-use borrow.Author.Tests.{ltb-true, ltb-false, eqb-true, eqb-false, lt-ltb, le-ltb, eq-eqb, ne_eqb}
+use borrow.Author.Tests.{ltb-true, ltb-false, eqb-true, eqb-false}
 use lib.Dec.{eqb, ltb}
 use lib.ListN.{length, get_or, set, length-set}
 use Rattle.rules.specs.Sizes.{largest_message}
-use Rattle.rules.specs.Framing.{octet, element_header, value_length}
-use Rattle.rules.specs.Types.{among}
+use Rattle.rules.specs.Framing.{element_header, value_length}
 use Rattle.rules.specs.Listings.{book}
-use Rattle.rules.specs.Standing.{Item, kept, item_of, entered}
+use Rattle.rules.specs.Standing.{Item, kept}
 use Rattle.rules.specs.Frames.{Element}
 use Rattle.taking.specs.Lacks.{lack_of}
 use Rattle.taking.specs.Held.{Held, held, one, count, counted, closed, Few}
 use Rattle.taking.specs.declared.Counts.{Counts}
 use Rattle.listings.proofs.Levels.{depth}
-use Rattle.reading.proofs.Runs.{inner-low, few-closed}
+use Rattle.reading.proofs.Runs.{inner-low}
 use Rattle.pieces.specs.declared.Open.{Open}
 use Rattle.pieces.specs.declared.Going.{Going}
 use Rattle.taking.specs.Frames.{apn, apns_of}
 use Rattle.pieces.specs.Depth.{deepest}
 use Rattle.pieces.specs.Drafts.{limited_level, back_by, is_crowded}
-use Rattle.pieces.specs.Steps.{onward, opened}
-use Rattle.pieces.specs.Coded.{no_open, top_of, with_depth, with_have, stop, closed_by, close_top, close_tops, check_top, settle_top, beyond, into, with_watch, watched_by, Fed, fed_with, next_held, enters, next_open, watched, placed, head_on, taken_by, take_by, gather_by, pass_one, headed_by, eat_by}
-use Rattle.pieces.specs.Fits.{Slot, EachSlot, lefts, Sized, Waiting, Fits}
+use Rattle.pieces.specs.Steps.{opened}
+use Rattle.pieces.specs.Coded.{no_open, top_of, with_depth, with_have, stop, closed_by, close_top, close_tops, check_top, settle_top, beyond, into, with_watch, watched_by, fed_with, next_held, enters, next_open, watched, placed, head_on, taken_by, take_by, gather_by, pass_one, headed_by, eat_by}
+use Rattle.pieces.specs.Fits.{Slot, EachSlot, lefts, Sized, Fits}
 
 -- ---- slots
 

@@ -1,18 +1,17 @@
 -- The octets of an element's header, its first value octet, and what they do to the walk: one law for each way out of the code. Assumes nothing.
-use mathlib.Core.Path.{◌≡◌, refl, sym, ap, ◌∙◌}
+use mathlib.Core.Path.{◌≡◌, refl, ap, ◌∙◌}
 use mathlib.Core.Bool.{Bool, true, false, cond}
-use mathlib.Core.List.{List, [], ◌∷◌, ◌++◌}
-use Prim.Native.Nat.{ℕ, zero, suc, ◌+◌, ◌-◌, ◌≤◌, ◌<◌}
+use mathlib.Core.List.{List, [], ◌∷◌}
+use Prim.Native.Nat.{ℕ, suc, ◌+◌, ◌≤◌, ◌<◌}
 use native.Mathlib.Omega.{arith}
 use borrow.Author.Tests.{eq-eqb, ne_eqb, lt-ltb, le-ltb}
 use lib.Dec.{eqb, ltb}
-use lib.ListN.{length, get_or, set, take, drop}
-use lib.Seq.{drop-cons}
+use lib.ListN.{length, get_or, take, drop}
 use Rattle.rules.specs.Sizes.{row_numbers}
 use Rattle.rules.specs.Framing.{element_header, value_length}
 use Rattle.pieces.specs.declared.Going.{Going}
 use Rattle.pieces.specs.declared.Walked.{Walked}
-use Rattle.pieces.specs.Coded.{top_of, stop, Fed, fed_with, take_by, gather_by, gather_four, pass_one, pass_by, further_by, headed_by, eat_by, eat_all_by, row_laid}
+use Rattle.pieces.specs.Coded.{top_of, stop, Fed, fed_with, take_by, gather_by, pass_one, further_by, headed_by, eat_by, eat_all_by}
 use Rattle.pieces.proofs.Accepting.{cond_yes, cond_no}
 use Rattle.pieces.specs.Agreements.{Wrote, Ready, and_then, HeadStrode, Strode}
 

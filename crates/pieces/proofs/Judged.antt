@@ -2,22 +2,22 @@
 --     fed-walks   the elements are those that the reading takes          fed-reading   checks 1 to 9
 --     pieces      verdict and table, however the octets are cut
 use mathlib.Core.Path.{◌≡◌, refl, sym, ap, ◌∙◌}
-use mathlib.Core.Bool.{Bool, true, false, cond, not, ◌&&◌, ◌||◌}
-use mathlib.Core.List.{List, [], ◌∷◌, ◌++◌, append_assoc}
-use Prim.Native.Nat.{ℕ, zero, suc, ◌+◌, ◌-◌, ◌*◌, ◌≤◌, ◌<◌}
+use mathlib.Core.Bool.{Bool, true, false, cond}
+use mathlib.Core.List.{List, [], ◌∷◌, ◌++◌}
+use Prim.Native.Nat.{ℕ, suc, ◌+◌, ◌-◌, ◌*◌, ◌≤◌, ◌<◌}
 use native.Mathlib.Omega.{arith}
 use borrow.Author.Tests.{ltb-true, ltb-false, lt-ltb, le-ltb, ne_eqb}
-use lib.Dec.{eqb, ltb}
-use lib.ListN.{length, take, drop, length-append, length-take, length-drop, length-replicate, take-append-drop}
-use lib.Seq.{get_or-drop, length-take-le, drop-append-add, drop_at, drop-drop, take_at}
-use Rattle.rules.specs.Sizes.{largest_message, header_numbers, row_numbers, used}
-use Rattle.rules.specs.Framing.{octet, flag_t, length_field, header_length, message_type}
-use Rattle.rules.specs.Listings.{Message, book, message_of}
+use lib.Dec.{ltb}
+use lib.ListN.{length, take, drop, length-drop, length-replicate, take-append-drop}
+use lib.Seq.{get_or-drop, length-take-le, drop_at, drop-drop}
+use Rattle.rules.specs.Sizes.{header_numbers, row_numbers, used}
+use Rattle.rules.specs.Framing.{flag_t, length_field, header_length, message_type}
+use Rattle.rules.specs.Listings.{book}
 use Rattle.rules.specs.Standing.{fresh}
 use Rattle.rules.specs.Taking.{Out, cut, whole, walk, body_level}
 use Rattle.rules.specs.Table.{rows_of, table_of, laid}
-use Rattle.rules.specs.Verdicts.{opening_checks, refused, refused_at, check, refuses, first, header_checks, framing_checks, judge_verdict, judge_table, items}
-use Rattle.rules.specs.Answers.{refused_reading, reading_of, read_rows, Read}
+use Rattle.rules.specs.Verdicts.{opening_checks, refused_at, check, refuses, first, header_checks, framing_checks, judge_verdict, judge_table, items}
+use Rattle.rules.specs.Answers.{refused_reading, reading_of, Read}
 use Rattle.rules.specs.declared.Verdict.{Verdict}
 use Rattle.rules.specs.declared.Reading.{Reading}
 use Rattle.rules.proofs.Standings.{no_mark}
@@ -30,11 +30,11 @@ use Rattle.reading.proofs.Endings.{ends-refused, ends-cut, ends-whole, rest-is}
 use Rattle.judging.specs.Judging.{given}
 use Rattle.judging.proofs.Deciding.{verdict_is}
 use Rattle.judging.proofs.Accepted.{Ready, ready}
-use Rattle.pieces.specs.Steps.{Walking, eat_all, begin, outcome}
+use Rattle.pieces.specs.Steps.{begin}
 use Rattle.pieces.specs.Depth.{deepest, nests}
 use Rattle.pieces.specs.Drafts.{Draft, plain, one_draft, shut_draft, draft_rows}
 use Rattle.pieces.specs.Loose.{loose}
-use Rattle.pieces.specs.Feeding.{Feed, idle, state_of, out_held, body, feed_all, feed_parts, joined_parts, zeros, started, out_reading, fed_reading, fed_verdict, headed, fed_table}
+use Rattle.pieces.specs.Feeding.{Feed, state_of, out_held, body, feed_parts, joined_parts, zeros, started, out_reading, fed_reading, fed_verdict, headed, fed_table}
 use Rattle.pieces.proofs.Depth.{body-nests}
 use Rattle.pieces.proofs.Steps.{begin-is}
 use Rattle.pieces.proofs.Backs.{Clean}

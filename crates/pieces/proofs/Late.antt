@@ -5,12 +5,12 @@
 use mathlib.Core.Path.{◌≡◌, refl, sym, ap, ◌∙◌, subst}
 use mathlib.Core.Bool.{Bool, true, false, cond, not, ◌&&◌}
 use mathlib.Core.List.{List, [], ◌∷◌}
-use Prim.Native.Nat.{ℕ, zero, suc, ◌+◌, ◌-◌, ◌*◌, ◌≤◌, ◌<◌}
+use Prim.Native.Nat.{ℕ, zero, suc, ◌+◌, ◌≤◌, ◌<◌}
 use native.Mathlib.Omega.{arith}
 use borrow.Author.Tests.{ltb-true, eqb-true, eq-eqb, ne_eqb}
 use lib.Dec.{eqb, ltb}
 use lib.ListN.{length, take, drop}
-use Rattle.rules.specs.Framing.{element_header, head_of}
+use Rattle.rules.specs.Framing.{element_header}
 use Rattle.rules.specs.Listings.{book}
 use Rattle.rules.specs.Sound.{is_free}
 use Rattle.rules.specs.Frames.{Element, seen, frames_of, exceeds}
@@ -19,18 +19,18 @@ use Rattle.rules.specs.Taking.{Out, cut, whole, after, walk, inside}
 use Rattle.rules.specs.Met.{At}
 use Rattle.rules.specs.Late.{blind}
 use Rattle.rules.proofs.Book.{book-sound, book-flat}
-use Rattle.rules.proofs.Heads.{at_seen, at-within}
+use Rattle.rules.proofs.Heads.{at-within}
 use Rattle.rules.proofs.Walks.{walk_nil, walk-cut, walk_more, in_none, in_some, rest_shorter, inside_shorter}
 use Rattle.rules.proofs.Standings.{Case, is_unexpected, is_repeated, is-short, is-kept, is_void, standing_case, entered-kept, entered-inside}
 use Rattle.rules.proofs.Covers.{void-over, void-limited, limited-group}
 use Rattle.rules.proofs.Late.{Flat, flat-alone, limited-flat, stands-blind, marks-blind, entered-blind, item-blind, void-enters}
 use Rattle.taking.specs.Lacks.{fault, lack_of}
 use Rattle.taking.specs.Frames.{most_apns, apns_of, crowd_from, crowd}
-use Rattle.taking.specs.Held.{Held, held, one, count, counted, short_of, closed, put_row, has_limits}
+use Rattle.taking.specs.Held.{Held, held, one, count, counted, short_of, closed, put_row}
 use Rattle.taking.specs.declared.Counts.{Counts}
 use Rattle.taking.proofs.Crowds.{crowd-none, crowd-cut, crowd-more, over-is}
 use Rattle.reading.specs.Scan.{shut, number}
-use Rattle.pieces.specs.Drafts.{limited_level, voided, Draft, draft, plain, back_by, one_draft, is_crowded, shut_draft, draft_rows}
+use Rattle.pieces.specs.Drafts.{limited_level, voided, Draft, plain, back_by, one_draft, shut_draft, draft_rows}
 use Rattle.pieces.specs.Loose.{loose}
 use Rattle.pieces.proofs.Loose.{loose-entered, loose-marked, loose-item}
 use Rattle.pieces.proofs.Limits.{limits-watched}

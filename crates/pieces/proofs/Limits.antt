@@ -1,7 +1,7 @@
 -- A level that is watched is one whose group has limits: all lines with one inside have limits, or none has. Assumes nothing.
 --     book-even   the listings of document 01 are so, by computation          limits-watched   an element that is entered has limits where its level is watched
 use mathlib.Core.Path.{◌≡◌, refl, ◌∙◌}
-use mathlib.Core.Bool.{Bool, true, false, not, ◌&&◌, ◌||◌, beq}
+use mathlib.Core.Bool.{Bool, true, false, not, ◌||◌, beq}
 use mathlib.Core.List.{List, [], ◌∷◌}
 use Prim.Native.Nat.{ℕ, zero, suc}
 use native.Mathlib.Nat.{pos_of_ne-zero}

@@ -1,14 +1,14 @@
 -- Listings without limits say of an element what the listings say of it before its inside is there: limits are all that an inside bears on. Assumes nothing.
 --     loose-standing, loose-entered, loose-marked, loose-item
-use mathlib.Core.Path.{◌≡◌, refl, sym, ap, ◌∙◌}
-use mathlib.Core.Bool.{Bool, true, false, cond, not, ◌&&◌, ◌||◌}
+use mathlib.Core.Path.{◌≡◌, refl, ap, ◌∙◌}
+use mathlib.Core.Bool.{Bool, true, false, cond, not, ◌&&◌}
 use mathlib.Core.List.{List, [], ◌∷◌}
-use Prim.Native.Nat.{ℕ, zero, suc, ◌+◌}
-use lib.Dec.{eqb, ltb}
-use lib.ListN.{length, get_or, set}
+use Prim.Native.Nat.{ℕ, zero, suc}
+use lib.Dec.{eqb}
+use lib.ListN.{length, get_or}
 use Rattle.rules.specs.Listings.{Line, Book, empty_line, lists, seek, listing}
 use Rattle.rules.specs.Frames.{Element, exceeds}
-use Rattle.rules.specs.Standing.{Item, kept, void, line_number, line_in, is_listed, is_short, is_over, standing, mark_after, marked, entered, item_of}
+use Rattle.rules.specs.Standing.{void, line_number, line_in, is_listed, is_short, is_over, standing, marked, entered, item_of}
 use Rattle.rules.specs.Late.{blind}
 use Rattle.rules.proofs.Frames.{none_exceed}
 use Rattle.pieces.specs.Loose.{loose_line, loose_lines, loose_levels, loose}

@@ -3,43 +3,36 @@
 use mathlib.Core.Path.{◌≡◌, refl, sym, ap, ◌∙◌}
 use mathlib.Core.Bool.{Bool, true, false, cond, not, ◌&&◌}
 use mathlib.Core.List.{List, [], ◌∷◌, ◌++◌, append_assoc, append-nil}
-use Prim.Native.Nat.{ℕ, zero, suc, ◌+◌, ◌-◌, ◌*◌, ◌≤◌, ◌<◌}
+use Prim.Native.Nat.{ℕ, zero, suc, ◌+◌, ◌≤◌, ◌<◌}
 use native.Mathlib.Omega.{arith}
-use native.Mathlib.Numerals.{add-one}
-use native.Mathlib.Decide.{dec_lt}
 use borrow.Author.Tests.{ltb-true, ltb-false, eqb-true, eqb-false, lt-ltb, le-ltb, le-leb, eq-eqb, ne_eqb}
-use lib.Dec.{eqb, ltb, leb}
-use lib.ListN.{length, get_or, set, take, drop, length-append, length-take, length-drop, length-set, length-replicate, get_or-append, get_or-eq_default}
-use lib.Seq.{get_or-take, get_or-set_same, get_or-set_other, get_or-append_seam, get_or_at, ext_get_or, drop_at, take-append-le, drop-append-add}
-use Rattle.rules.specs.Sizes.{header_numbers, row_numbers, used}
+use lib.Dec.{eqb, ltb}
+use lib.ListN.{length, set, take, drop, length-append, length-take, length-drop, length-set, length-replicate, get_or-append, get_or-eq_default}
+use lib.Seq.{get_or-take, get_or-set_same, get_or-set_other, get_or-append_seam, ext_get_or, drop_at}
+use Rattle.rules.specs.Sizes.{header_numbers}
 use Rattle.rules.specs.Framing.{octet, element_header, value_length, version, flag_p, flag_t, message_type, length_field, header_length}
-use Rattle.rules.specs.Listings.{book, message_of}
-use Rattle.rules.specs.Taking.{Out, cut, whole}
+use Rattle.rules.specs.Listings.{book}
 use Rattle.rules.specs.Verdicts.{opening_checks, accepted, refused_at, refuses, first, judge_verdict, judge_table}
 use Rattle.rules.specs.Answers.{refused_reading}
-use Rattle.rules.specs.declared.Verdict.{Verdict}
 use Rattle.rules.specs.declared.Reading.{Reading}
 use Rattle.rules.proofs.Rows.{Octets, header-least}
-use Rattle.taking.specs.Held.{one, no_counts, put_numbers, put_row, Few}
+use Rattle.taking.specs.Held.{one, no_counts, put_row}
 use Rattle.reading.specs.Scan.{whole_reading}
-use Rattle.taking.specs.declared.Counts.{Counts}
 use Rattle.judging.specs.Judging.{given}
 use Rattle.pieces.specs.declared.Going.{Going}
 use Rattle.pieces.specs.declared.Pieces.{Pieces}
-use Rattle.pieces.specs.declared.Told.{Told}
-use Rattle.pieces.specs.Depth.{deepest}
 use Rattle.pieces.specs.Drafts.{Draft, plain}
-use Rattle.pieces.specs.Steps.{Walking, stopped, going, eat, outcome}
-use Rattle.pieces.specs.Feeding.{count_on, Feed, idle, state_of, out_held, body, zeros, joined_parts, out_reading, fed_reading, fed_verdict, headed, fed_table}
-use Rattle.pieces.specs.Coded.{top_of, draft_by, take_by, headed_by, eat_by, gather_by, stop, pass_one, Fed, fed_with, next_held, head_by, idle_by, body_by, head_after, in_header_by, FedPieces, feed_by, feed_all_by}
+use Rattle.pieces.specs.Steps.{Walking, stopped, going}
+use Rattle.pieces.specs.Feeding.{count_on, idle, state_of, out_held, body, zeros, joined_parts, out_reading, fed_reading, fed_verdict, headed, fed_table}
+use Rattle.pieces.specs.Coded.{top_of, draft_by, take_by, headed_by, eat_by, gather_by, stop, pass_one, fed_with, idle_by, body_by, head_after, in_header_by, FedPieces, feed_by, feed_all_by}
 use Rattle.pieces.specs.Fits.{Fits}
-use Rattle.pieces.specs.Answers.{takes, start_of, part_told, part_table, ended_by, header_by, reading_by, verdict_by, end_told, end_table, Lent, begun, part_after}
+use Rattle.pieces.specs.Answers.{takes, part_told, part_table, ended_by, header_by, reading_by, verdict_by, end_told, end_table, Lent, begun, part_after}
 use Rattle.pieces.proofs.Alone.{put-length, back-length}
 use Rattle.pieces.proofs.Fits.{eat-fits}
 use Rattle.pieces.proofs.Viewed.{walking_of, stack_of, eat_view, body_view}
 use Rattle.pieces.proofs.Tests.{fits-test}
 use Rattle.pieces.proofs.Bodies.{idle-fits, body-fits}
-use Rattle.pieces.proofs.Feeding.{four_checks, header-most, header-same, counted, counted-low, counted-high, counted-least, count-on, walking_after, walk-on, walk_more, feed_after}
+use Rattle.pieces.proofs.Feeding.{four_checks, header-most, counted, counted-low, counted-high, counted-least, count-on, walking_after, walk-on, walk_more, feed_after}
 use Rattle.pieces.proofs.Judged.{blank-clean, fed-verdict, fed-table}
 
 -- ---- the header's octets

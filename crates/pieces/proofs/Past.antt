@@ -4,13 +4,13 @@
 use mathlib.Core.Path.{◌≡◌, refl, sym, ap, ◌∙◌}
 use mathlib.Core.Bool.{Bool, true, false, cond}
 use mathlib.Core.List.{List, [], ◌∷◌, ◌++◌}
-use Prim.Native.Nat.{ℕ, ◌+◌, ◌-◌, ◌*◌, ◌≤◌, ◌<◌}
+use Prim.Native.Nat.{ℕ, ◌+◌, ◌-◌, ◌≤◌, ◌<◌}
 use native.Mathlib.Omega.{arith}
 use borrow.Author.Tests.{ltb-true, ltb-false, lt-ltb, le-ltb}
 use lib.Dec.{eqb, ltb}
-use lib.ListN.{length, get_or, take, drop}
+use lib.ListN.{length, get_or, drop}
 use lib.Seq.{get_or-drop}
-use Rattle.rules.specs.Sizes.{header_numbers, row_numbers, used}
+use Rattle.rules.specs.Sizes.{header_numbers, used}
 use Rattle.rules.specs.Framing.{element_header, value_length, header_length}
 use Rattle.rules.proofs.Standings.{no_mark}
 use Rattle.rules.specs.Listings.{book}
@@ -18,7 +18,6 @@ use Rattle.rules.specs.Standing.{item_of, value_place}
 use Rattle.taking.specs.Held.{one, count, counted, put_row}
 use Rattle.pieces.specs.declared.Going.{Going}
 use Rattle.pieces.specs.declared.Pieces.{Pieces}
-use Rattle.pieces.specs.declared.Told.{Told}
 use Rattle.pieces.specs.Drafts.{Draft}
 use Rattle.pieces.specs.Feeding.{count_on, zeros, joined_parts}
 use Rattle.pieces.specs.Coded.{top_of, stop, Fed, fed_with, head_on, take_by, gather_by, pass_one, headed_by, eat_by, idle_by, in_header_by, with_going, FedPieces, feed_by, feed_all_by}

@@ -2,21 +2,20 @@
 --     eats      one octet          run_is    all that is owed          begin-is   from the first octet of a run          cut_anywhere   however it is cut
 use mathlib.Core.Path.{◌≡◌, refl, sym, ap, ◌∙◌}
 use mathlib.Core.Bool.{Bool, true, false, cond, ◌&&◌}
-use mathlib.Core.List.{List, [], ◌∷◌, ◌++◌, append_assoc, append-nil}
+use mathlib.Core.List.{List, [], ◌∷◌, ◌++◌, append_assoc}
 use Prim.Native.Nat.{ℕ, zero, suc, ◌+◌, ◌-◌, ◌%◌, ◌≤◌, ◌<◌}
 use native.Mathlib.Omega.{arith}
-use native.Mathlib.Nat.{add-zero, pos_of_ne-zero}
-use borrow.Author.Tests.{ltb-true, ltb-false, eqb-true, eqb-false, le-leb, lt-leb, lt-ltb, eq-eqb, ne_eqb}
+use native.Mathlib.Nat.{pos_of_ne-zero}
+use borrow.Author.Tests.{ltb-true, ltb-false, eqb-true, eqb-false, le-leb, lt-leb, lt-ltb}
 use lib.Dec.{eqb, ltb, leb}
-use lib.ListN.{length, get_or, take, drop, length-append, length-take, length-drop, get_or-append}
-use lib.Seq.{get_or-take, get_or-append-add, drop-append-add, drop_at, take_all, drop-drop}
-use Rattle.rules.specs.Framing.{octet, element_header, value_length, first_octet, no_head, head_of}
+use lib.ListN.{length, take, drop, length-append, length-take, length-drop, get_or-append}
+use lib.Seq.{get_or-take, get_or-append-add, drop-append-add, drop_at}
+use Rattle.rules.specs.Framing.{octet, element_header, value_length, no_head, head_of}
 use Rattle.rules.specs.Listings.{Book}
-use Rattle.rules.specs.Standing.{Item, fresh, item_of, marked, entered}
-use Rattle.rules.specs.Taking.{Out, cut, whole, after, walk}
+use Rattle.rules.specs.Standing.{Item, fresh, item_of, entered}
+use Rattle.rules.specs.Taking.{Out, cut, walk}
 use Rattle.rules.specs.Met.{At}
-use Rattle.rules.specs.Frames.{Frame, Element, element, frames_of, value_of, seen}
-use Rattle.rules.specs.Late.{blind}
+use Rattle.rules.specs.Frames.{Element, element, frames_of, value_of, seen}
 use Rattle.rules.specs.declared.Head.{Head}
 use Rattle.pieces.specs.declared.Open.{Open}
 use Rattle.pieces.specs.Steps.{Walking, stopped, going, gathered, onward, opened, settle, proceed, take_one, headed, gather, eat, eat_all, begin, outcome}

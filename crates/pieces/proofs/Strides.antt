@@ -1,18 +1,18 @@
 -- Octets of the elements that go by one step: those that are passed over, a header that stands whole in the part, and those that change nothing.
 -- Assumes nothing.
 use mathlib.Core.Path.{◌≡◌, refl, sym, ap, ◌∙◌}
-use mathlib.Core.Bool.{Bool, true, false, cond}
+use mathlib.Core.Bool.{Bool, true, false}
 use mathlib.Core.List.{List, [], ◌∷◌}
-use Prim.Native.Nat.{ℕ, zero, suc, ◌+◌, ◌-◌, ◌≤◌, ◌<◌}
+use Prim.Native.Nat.{ℕ, suc, ◌+◌, ◌-◌, ◌≤◌, ◌<◌}
 use native.Mathlib.Omega.{arith}
 use lib.ListN.{length, get_or, set, take, drop}
 use lib.Seq.{length-take-le}
 use Rattle.rules.specs.Sizes.{row_numbers}
 use Rattle.pieces.specs.declared.Going.{Going}
 use Rattle.pieces.specs.declared.Walked.{Walked}
-use Rattle.pieces.specs.Coded.{Fed, fed_with, gather_by, gather_four, pass_one, pass_by, further_by, headed_by, eat_by, eat_all_by}
+use Rattle.pieces.specs.Coded.{fed_with, gather_by, gather_four, pass_one, pass_by, further_by, headed_by, eat_by, eat_all_by}
 use Rattle.pieces.specs.Fits.{Sized}
-use Rattle.pieces.specs.Agreements.{Wrote, Ready, Least, Four, and_then, HeadStrode, Strode}
+use Rattle.pieces.specs.Agreements.{Ready, Least, Four, and_then, HeadStrode, Strode}
 use Rattle.pieces.proofs.Headed.{ate_stopped, ate_pass, ate_none, ate_few, ate_three, wrote_as, wrote_none}
 
 -- ---- passed over

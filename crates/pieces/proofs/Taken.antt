@@ -11,11 +11,11 @@ use lib.ListN.{length}
 use Rattle.rules.specs.Sizes.{row_numbers}
 use Rattle.rules.specs.Framing.{element_header, value_length}
 use Rattle.rules.specs.Listings.{book}
-use Rattle.rules.specs.Standing.{Item, item_of, entered, marked}
+use Rattle.rules.specs.Standing.{Item, item_of}
 use Rattle.rules.specs.Table.{row}
 use Rattle.rules.specs.Frames.{Element, element, filled_by, frames_by, frames_of}
 use Rattle.rules.specs.declared.Head.{Head}
-use Rattle.taking.specs.Held.{Held, held, one, count, put_row, Took}
+use Rattle.taking.specs.Held.{Held, held, one, count, Took}
 use Rattle.taking.specs.declared.Counts.{Counts}
 use Rattle.taking.specs.declared.Taken.{Taken}
 use Rattle.pieces.specs.declared.Open.{Open}

@@ -1,27 +1,25 @@
 -- The test of a state is that it fits. Assumes nothing.
-use mathlib.Core.Path.{◌≡◌, refl, sym, ap, ◌∙◌}
+use mathlib.Core.Path.{◌≡◌, refl}
 use mathlib.Core.Bool.{Bool, true, false, cond, not, ◌&&◌}
 use mathlib.Core.List.{List, [], ◌∷◌}
-use Prim.Native.Nat.{ℕ, zero, suc, ◌+◌, ◌-◌, ◌≤◌, ◌<◌}
+use Prim.Native.Nat.{ℕ, ◌+◌, ◌-◌, ◌≤◌, ◌<◌}
 use native.Mathlib.Omega.{arith}
 use native.Mathlib.Nat.{pos_of_ne-zero}
 use borrow.Author.Tests.{ltb-true, leb-true, eqb-true, eqb-false, lt-ltb, le-leb, eq-eqb, ne_eqb, not-true}
 use lib.Dec.{eqb, ltb, leb}
-use lib.ListN.{length, get_or}
+use lib.ListN.{length}
 use Rattle.rules.specs.Sizes.{largest_message}
 use Rattle.rules.specs.Framing.{element_header, value_length}
 use Rattle.rules.specs.Types.{among}
-use Rattle.rules.specs.Listings.{Book, book}
+use Rattle.rules.specs.Listings.{book}
 use Rattle.rules.proofs.Lines.{and_left, and_right}
-use Rattle.taking.specs.Held.{Few}
 use Rattle.taking.specs.declared.Counts.{Counts}
 use Rattle.pieces.specs.declared.Open.{Open}
 use Rattle.pieces.specs.declared.Going.{Going}
 use Rattle.pieces.specs.Depth.{deepest}
-use Rattle.pieces.specs.Coded.{no_open, top_of}
-use Rattle.pieces.specs.Fits.{Slot, EachSlot, lefts, Sized, Waiting, Fits}
+use Rattle.pieces.specs.Coded.{top_of}
+use Rattle.pieces.specs.Fits.{Slot, EachSlot, lefts, Waiting, Fits}
 use Rattle.pieces.specs.Answers.{slot_fits, slots_fit, back_fits, waits, walk_fits}
-use Rattle.pieces.proofs.Fits.{slot_at, left-most}
 
 both : (a b : Bool) → a ≡ true → b ≡ true → a && b ≡ true
 both a b e f = rw (e, f)

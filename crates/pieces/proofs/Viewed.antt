@@ -5,12 +5,11 @@ use mathlib.Core.Bool.{Bool, true, false, cond, ◌&&◌}
 use mathlib.Core.List.{List, [], ◌∷◌, ◌++◌}
 use Prim.Native.Nat.{ℕ, zero, suc, ◌+◌, ◌-◌, ◌≤◌, ◌<◌}
 use native.Mathlib.Omega.{arith}
-use native.Mathlib.Nat.{pos_of_ne-zero}
 use native.Mathlib.Numerals.{add-one}
 use borrow.Author.Tests.{ltb-true, ltb-false, eqb-true, eqb-false, lt-ltb, le-ltb, eq-eqb, ne_eqb}
 use lib.Dec.{eqb, ltb}
-use lib.ListN.{length, get_or, set, take, drop, length-set, length-take}
-use lib.Seq.{get_or-set_same, get_or-set_other, take-suc-set, take_all, take-length}
+use lib.ListN.{length, get_or, set, take, length-set, length-take}
+use lib.Seq.{get_or-set_same, get_or-set_other, take-suc-set, take_all}
 use Rattle.rules.specs.Framing.{octet, element_header, value_length, length_field, header_length}
 use Rattle.rules.specs.Listings.{book}
 use Rattle.rules.specs.Standing.{Item, item_of, entered}
@@ -19,7 +18,7 @@ use Rattle.rules.specs.Verdicts.{opening_checks, refuses, first}
 use Rattle.rules.specs.Frames.{Element}
 use Rattle.taking.specs.Lacks.{lack_of}
 use Rattle.taking.specs.Frames.{apns_of}
-use Rattle.taking.specs.Held.{Held, held, one, no_counts, count, closed}
+use Rattle.taking.specs.Held.{held, one, no_counts, closed}
 use Rattle.taking.specs.declared.Counts.{Counts}
 use Rattle.pieces.specs.declared.Open.{Open}
 use Rattle.pieces.specs.declared.Going.{Going}
@@ -27,8 +26,8 @@ use Rattle.pieces.specs.Depth.{deepest}
 use Rattle.pieces.specs.Drafts.{limited_level, voided, back_to, Draft, draft, plain, back_by, one_draft, is_crowded, shut_draft, draft_rows}
 use Rattle.pieces.specs.Steps.{Walking, stopped, going, gathered, onward, opened, settle, proceed, take_one, headed, gather, eat, begin}
 use Rattle.pieces.specs.Feeding.{idle, body}
-use Rattle.pieces.specs.Coded.{no_open, top_of, with_depth, with_have, stop, closed_by, close_top, close_tops, check_top, settle_top, beyond, into, with_watch, watched_by, placed_by, Fed, fed_with, draft_by, next_held, enters, next_open, placed, head_on, taken_by, take_by, gather_by, pass_one, headed_by, eat_by, idle_by, entry_by, body_by}
-use Rattle.pieces.specs.Fits.{Sized, Waiting, Fits}
+use Rattle.pieces.specs.Coded.{no_open, top_of, with_depth, with_have, stop, closed_by, close_top, close_tops, check_top, settle_top, beyond, into, with_watch, watched_by, placed_by, Fed, fed_with, draft_by, placed, taken_by, take_by, gather_by, pass_one, headed_by, eat_by, idle_by, entry_by, body_by}
+use Rattle.pieces.specs.Fits.{Sized, Fits}
 use Rattle.pieces.proofs.Fits.{not_three, gather-sized, apns-low, rows-one}
 
 -- the n lowest levels, the innermost first

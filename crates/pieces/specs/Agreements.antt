@@ -1,5 +1,5 @@
 -- The parts of contracts over the steps of the code. Assumes nothing.
-use Rattle.std.specs.Prelude.{◌≡◌, ℕ, ◌+◌, ◌-◌, ◌≤◌, ◌<◌, Bool, true, false, cond, List, [], ◌∷◌, ltb, length, get_or, take}
+use Rattle.std.specs.Prelude.{◌≡◌, ℕ, ◌+◌, ◌≤◌, ◌<◌, Bool, true, false, cond, List, [], ◌∷◌, ltb, length, get_or, take}
 use Rattle.rules.specs.Sizes.{largest_message, header_numbers, row_numbers}
 use Rattle.rules.specs.Framing.{element_header, value_length, message_type, length_field, header_length}
 use Rattle.rules.specs.Listings.{book, is_message}

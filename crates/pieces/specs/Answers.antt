@@ -1,9 +1,9 @@
 -- What the start, a part and the end answer and leave, for every state: the statements that the contracts cite whole. Assumes nothing.
-use Rattle.std.specs.Prelude.{◌≡◌, ℕ, ◌+◌, ◌-◌, Bool, true, false, cond, not, ◌&&◌, List, [], ◌∷◌, ◌++◌, eqb, ltb, leb, length, get_or, take, drop, replicate}
+use Rattle.std.specs.Prelude.{◌≡◌, ℕ, ◌+◌, ◌-◌, Bool, true, false, cond, not, ◌&&◌, List, [], ◌∷◌, ◌++◌, eqb, ltb, leb, length, take, drop, replicate}
 use Rattle.rules.specs.Sizes.{largest_message, header_numbers, used}
 use Rattle.rules.specs.Framing.{element_header, value_length, message_type}
 use Rattle.rules.specs.Types.{among}
-use Rattle.rules.specs.Listings.{Book, book}
+use Rattle.rules.specs.Listings.{book}
 use Rattle.rules.specs.Verdicts.{opening_checks, accepted, refused, refused_at, refuses, first}
 use Rattle.rules.specs.Answers.{refused_reading}
 use Rattle.rules.specs.declared.Verdict.{Verdict}
@@ -18,7 +18,7 @@ use Rattle.pieces.specs.declared.Pieces.{Pieces}
 use Rattle.pieces.specs.declared.Told.{Told}
 use Rattle.pieces.specs.Depth.{deepest}
 use Rattle.pieces.specs.Feeding.{zeros}
-use Rattle.pieces.specs.Coded.{no_open, top_of, idle_by, FedPieces, feed_all_by}
+use Rattle.pieces.specs.Coded.{top_of, idle_by, feed_all_by}
 
 -- ---- are a state's numbers such that the sums and the marks hold? Those that a start leads to are (`Main.like-takes`)
 

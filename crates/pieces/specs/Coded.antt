@@ -1,16 +1,14 @@
 -- The steps as the code takes them: the open levels are in an array and a count, the header's octets too. Assumes nothing.
-use Rattle.std.specs.Prelude.{◌≡◌, ℕ, zero, suc, ◌+◌, ◌-◌, ◌%◌, ◌≤◌, ◌<◌, Bool, true, false, cond, not, ◌&&◌, List, [], ◌∷◌, ◌++◌, eqb, ltb, leb, length, get_or, set, take, replicate}
-use Rattle.rules.specs.Sizes.{largest_message, header_numbers, used}
+use Rattle.std.specs.Prelude.{ℕ, zero, suc, ◌+◌, ◌-◌, ◌%◌, Bool, true, false, cond, List, [], ◌∷◌, eqb, ltb, get_or, set, replicate}
+use Rattle.rules.specs.Sizes.{largest_message}
 use Rattle.rules.specs.Framing.{octet, element_header, value_length, length_field, header_length}
 use Rattle.rules.specs.Listings.{book}
 use Rattle.rules.specs.Standing.{fresh, item_of, entered}
 use Rattle.rules.specs.Taking.{body_level}
-use Rattle.rules.specs.Verdicts.{opening_checks, accepted, refused, refused_at, refuses, first}
+use Rattle.rules.specs.Verdicts.{opening_checks, refuses, first}
 use Rattle.rules.specs.Frames.{Element, element}
 use Rattle.rules.specs.declared.Head.{Head}
-use Rattle.rules.specs.declared.Verdict.{Verdict}
 use Rattle.taking.specs.Lacks.{lack_of}
-use Rattle.reading.specs.Gaps.{unpacked}
 use Rattle.taking.specs.Held.{Held, held, one, no_counts, closed, put_numbers}
 use Rattle.taking.specs.declared.Counts.{Counts}
 use Rattle.pieces.specs.declared.Open.{Open}
@@ -21,7 +19,7 @@ use Rattle.pieces.specs.Depth.{deepest}
 use Rattle.taking.specs.Frames.{apns_of}
 use Rattle.pieces.specs.Drafts.{limited_level, back_to, Draft, draft, back_by, is_crowded}
 use Rattle.pieces.specs.Steps.{onward, opened}
-use Rattle.pieces.specs.Feeding.{count_on, zeros}
+use Rattle.pieces.specs.Feeding.{count_on}
 
 -- what stands past the array's end, and no answer hangs on that
 abbrev pub no_open : Open

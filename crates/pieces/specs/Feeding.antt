@@ -1,20 +1,17 @@
 -- A message as it comes, one octet at a time: what is held between two octets, what one more does, and what the end says. Assumes nothing.
-use Rattle.std.specs.Prelude.{ℕ, suc, ◌+◌, ◌-◌, Bool, true, false, cond, not, ◌&&◌, ◌||◌, List, [], ◌∷◌, ◌++◌, eqb, ltb, length, drop, replicate}
-use Rattle.std.specs.Bool.{beq}
+use Rattle.std.specs.Prelude.{ℕ, suc, ◌+◌, ◌-◌, cond, List, [], ◌∷◌, ◌++◌, eqb, ltb, drop, replicate}
 use Rattle.rules.specs.Sizes.{largest_message, header_numbers, used}
-use Rattle.rules.specs.Framing.{version, flag_p, flag_t, message_type, length_field, header_length}
-use Rattle.rules.specs.Types.{among}
-use Rattle.rules.specs.Listings.{Book, Message, book, is_message, message_of}
+use Rattle.rules.specs.Framing.{message_type, length_field, header_length}
+use Rattle.rules.specs.Listings.{book}
 use Rattle.rules.specs.Taking.{Out, cut, whole, body_level}
-use Rattle.rules.specs.Verdicts.{opening_checks, refused, refused_at, invalid_length, check, refuses, first}
+use Rattle.rules.specs.Verdicts.{opening_checks, refused_at, refuses, first}
 use Rattle.rules.specs.Answers.{refused_reading}
 use Rattle.rules.specs.declared.Verdict.{Verdict}
 use Rattle.rules.specs.declared.Reading.{Reading}
 use Rattle.taking.specs.Held.{no_counts}
 use Rattle.reading.specs.Scan.{whole_reading}
 use Rattle.judging.specs.Judging.{given}
-use Rattle.pieces.specs.declared.Open.{Open}
-use Rattle.pieces.specs.Steps.{Walking, stopped, going, eat, begin, outcome}
+use Rattle.pieces.specs.Steps.{Walking, going, eat, begin, outcome}
 use Rattle.pieces.specs.Depth.{deepest}
 use Rattle.pieces.specs.Drafts.{Draft, plain, one_draft, shut_draft, draft_rows}
 

@@ -1,13 +1,12 @@
 -- What a state that came of a start satisfies: the numbers that the sums and the marks need. Assumes nothing.
-use Rattle.std.specs.Prelude.{◌≡◌, ℕ, ◌+◌, ◌≤◌, ◌<◌, Bool, true, false, List, [], ◌∷◌, length}
+use Rattle.std.specs.Prelude.{◌≡◌, ℕ, ◌+◌, ◌≤◌, ◌<◌, true, false, List, [], ◌∷◌, length}
 use Rattle.rules.specs.Sizes.{largest_message}
 use Rattle.rules.specs.Framing.{element_header, value_length}
 use Rattle.rules.specs.Types.{among}
-use Rattle.rules.specs.Listings.{Book, book}
+use Rattle.rules.specs.Listings.{book}
 use Rattle.taking.specs.Held.{Few}
 use Rattle.pieces.specs.declared.Open.{Open}
 use Rattle.pieces.specs.declared.Going.{Going}
-use Rattle.pieces.specs.declared.Pieces.{Pieces}
 use Rattle.pieces.specs.Depth.{deepest}
 use Rattle.pieces.specs.Coded.{top_of}
 

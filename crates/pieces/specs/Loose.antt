@@ -1,5 +1,5 @@
 -- The listings without their limits: what is walked while nobody knows yet what a group holds. Assumes nothing.
-use Rattle.std.specs.Prelude.{ℕ, List, [], ◌∷◌}
+use Rattle.std.specs.Prelude.{List, [], ◌∷◌}
 use Rattle.rules.specs.Listings.{Line, Book}
 
 abbrev pub loose_line : Line → Line

@@ -1,4 +1,6 @@
 // Octets as the ring hands them over: a form of the judge that is fed parts of a message and then told the end.
+#![tactic(auto)]
+
 ghost use Rattle.std.specs.Prelude.{◌≡◌, ◌-◌, ◌≤◌, length};
 ghost use Rattle.taking.specs.Held.{no_counts};
 ghost use Rattle.pieces.specs.Feeding.{zeros};

@@ -1,22 +1,20 @@
 -- Functions that only look like a builder are turned down, each by an example. Assumes nothing.
 use mathlib.Core.Path.{◌≡◌, refl, sym, ap, ◌∙◌}
-use mathlib.Core.Bool.{Bool, true, false}
+use mathlib.Core.Bool.{true}
 use mathlib.Core.List.{List, [], ◌∷◌, ◌++◌, map}
-use Prim.Native.Nat.{ℕ, zero, suc, ◌+◌, ◌%◌, ◌<◌}
+use Prim.Native.Nat.{ℕ, ◌%◌}
 use native.Mathlib.Omega.{arith}
 use lib.ListN.{length, get_or, replicate}
 use Rattle.rules.specs.Types.{groups, is_group}
-use Rattle.rules.specs.Listings.{levels, messages, book, seek_message, message_of}
-use Rattle.rules.specs.Table.{laid}
+use Rattle.rules.specs.Listings.{messages, book, seek_message, message_of}
 use Rattle.rules.specs.Values.{row_type, row_length, table_type, table_kind}
-use Rattle.rules.specs.Verdicts.{accepted, refused, refuses}
+use Rattle.rules.specs.Verdicts.{accepted, refused}
 use Rattle.rules.specs.Emitting.{size_of, within, emitted}
 use Rattle.rules.specs.Built.{built_by, given, givens, built}
-use Rattle.rules.specs.Examples.{message_d, message_g}
+use Rattle.rules.specs.Examples.{message_g}
 use Rattle.rules.specs.CleanExamples.{Left}
-use Rattle.rules.specs.BuildExamples.{Build, builds, build_outcome, build_written, table_d, table_g, table_none, room_octets}
+use Rattle.rules.specs.BuildExamples.{builds, build_outcome, build_written, table_d, table_g, table_none}
 use Rattle.rules.specs.declared.Verdict.{Verdict}
-use Rattle.rules.specs.declared.Sent.{Sent}
 use Rattle.rules.proofs.Examples.{all-builds}
 use Rattle.promises.specs.StandIns.{below, GivenTable, Builder, IsBuilder, outer_pieces, outer_built}
 

@@ -2,21 +2,19 @@
 --     answered, is-built, build-past-stays     what is answered and left where nothing refuses          build-left-alone   and where something does
 --     built-judged                       the message's table, which is the table given            rebuilt-same   a message rebuilt from itself
 use mathlib.Core.Path.{◌≡◌, refl, sym, ap, ◌∙◌}
-use mathlib.Core.Bool.{Bool, true, false, cond, not, ◌&&◌}
+use mathlib.Core.Bool.{Bool, true, false, cond}
 use mathlib.Core.List.{List, [], ◌∷◌, ◌++◌}
-use Prim.Native.Nat.{ℕ, ◌+◌, ◌*◌, ◌≤◌, ◌<◌}
+use Prim.Native.Nat.{ℕ, ◌≤◌, ◌<◌}
 use native.Mathlib.Omega.{arith}
-use borrow.Author.Tests.{eqb-true, eq-eqb, lt-ltb, le-ltb}
-use lib.Dec.{eqb}
-use lib.ListN.{length, take, drop, get_or}
+use borrow.Author.Tests.{eq-eqb, lt-ltb, le-ltb}
+use lib.ListN.{length, take, drop}
 use Rattle.rules.specs.Sizes.{header_numbers, used}
-use Rattle.rules.specs.Framing.{octet, flag_t, message_type, header_length}
-use Rattle.rules.specs.Types.{is_group}
-use Rattle.rules.specs.Listings.{Message, book, message_of}
-use Rattle.rules.specs.Standing.{Item, kept}
-use Rattle.rules.specs.Taking.{whole, taken, items_in}
-use Rattle.rules.specs.Table.{kept_rows, table_of, laid, nth}
-use Rattle.rules.specs.Values.{row_place, row_count, table_type, table_kind}
+use Rattle.rules.specs.Framing.{flag_t, message_type, header_length}
+use Rattle.rules.specs.Listings.{book, message_of}
+use Rattle.rules.specs.Standing.{Item}
+use Rattle.rules.specs.Taking.{whole, taken}
+use Rattle.rules.specs.Table.{kept_rows, table_of, laid}
+use Rattle.rules.specs.Values.{row_count, table_type, table_kind}
 use Rattle.rules.specs.Verdicts.{accepted, refused, refuses, check, first, items, judge_verdict}
 use Rattle.rules.specs.Emitting.{amply, accepted_whole}
 use Rattle.rules.specs.Built.{first_of, rest_of, teid_of, sequence_of, ZeroBits, built, build_checks, build_verdict, build_length, build_room, late_verdict, headed_checks, built_by}

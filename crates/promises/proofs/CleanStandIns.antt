@@ -1,13 +1,13 @@
 -- Functions that only look like a cleaner are turned down, each by an example, or by a promise. Assumes nothing.
-use mathlib.Core.Path.{◌≡◌, refl, sym, ap, ◌∙◌}
-use mathlib.Core.Bool.{Bool, true, false}
+use mathlib.Core.Path.{◌≡◌, refl, ap, ◌∙◌}
+use mathlib.Core.Bool.{true}
 use mathlib.Core.List.{List, [], ◌∷◌, map}
 use Prim.Native.Nat.{ℕ, zero, suc, ◌+◌, ◌<◌}
 use native.Mathlib.Omega.{arith}
 use borrow.Author.Tests.{ltb-true}
 use lib.Dec.{ltb}
-use lib.ListN.{length, take, drop, get_or, replicate}
-use Rattle.rules.specs.Framing.{octet, version, flag_p, flag_t, message_type, length_field, header_length, head_of}
+use lib.ListN.{length, get_or}
+use Rattle.rules.specs.Framing.{octet, flag_t, message_type, header_length, head_of}
 use Rattle.rules.specs.Types.{parteds, least_by_type, least_of, groups, is_group}
 use Rattle.rules.specs.Listings.{levels, messages, book, seek, seek_message, listing, message_of, is_message}
 use Rattle.rules.specs.Frames.{seen, exceeds}
@@ -16,11 +16,9 @@ use Rattle.rules.specs.Taking.{run, walk, items_of, body_level, taken}
 use Rattle.rules.specs.Table.{laid}
 use Rattle.rules.specs.Verdicts.{accepted, refuses}
 use Rattle.rules.specs.Emitting.{size_of, within, emitted, accepted_whole}
-use Rattle.rules.specs.Cleaned.{received, pieces, cleaned}
+use Rattle.rules.specs.Cleaned.{received, pieces}
 use Rattle.rules.specs.Examples.{message_k, sevens}
-use Rattle.rules.specs.CleanExamples.{Cleaning, Left, cleanings, clean_outcome, clean_written, message_inner}
-use Rattle.rules.specs.declared.Verdict.{Verdict}
-use Rattle.rules.specs.declared.Sent.{Sent}
+use Rattle.rules.specs.CleanExamples.{Left, cleanings, clean_outcome, clean_written, message_inner}
 use Rattle.rules.proofs.Book.{book-sound}
 use Rattle.rules.proofs.Lines.{and_left, and_right}
 use Rattle.rules.proofs.Rows.{Octets}

@@ -5,25 +5,24 @@
 --     whole_same                   of a message with every row kept   commutes     cleaned and masked, either first
 use mathlib.Core.Path.{◌≡◌, refl, sym, ap, ◌∙◌}
 use mathlib.Core.Logic.{◌↔◌, ◌≢◌}
-use mathlib.Core.Bool.{Bool, true, false, cond, not, ◌&&◌}
+use mathlib.Core.Bool.{Bool, true, false, cond, not}
 use mathlib.Core.List.{List, [], ◌∷◌}
-use Prim.Native.Nat.{ℕ, zero, suc, ◌+◌, ◌-◌, ◌*◌, ◌≤◌, ◌<◌}
+use Prim.Native.Nat.{ℕ, zero, suc, ◌+◌, ◌-◌, ◌≤◌, ◌<◌}
 use native.Mathlib.Omega.{arith}
 use native.Mathlib.Decide.{dec_lt}
-use borrow.Author.Tests.{eqb-true, eq-eqb, lt-ltb, le-ltb, not-true}
+use borrow.Author.Tests.{eqb-true, eq-eqb, lt-ltb, le-ltb}
 use lib.Dec.{eqb, ltb}
-use lib.ListN.{length, take, drop, get_or, length-take, length-drop, get_or-append}
-use lib.Seq.{take-length, get_or-take, get_or-drop, length-take-le}
-use Rattle.rules.specs.Sizes.{most_rows, row_numbers, used}
+use lib.ListN.{length, take, drop, length-take, length-drop, get_or-append}
+use lib.Seq.{get_or-take, get_or-drop, length-take-le}
+use Rattle.rules.specs.Sizes.{most_rows, used}
 use Rattle.rules.specs.Framing.{message_type, octet, header_length}
-use Rattle.rules.specs.Types.{is_group}
-use Rattle.rules.specs.Listings.{Book, book}
+use Rattle.rules.specs.Listings.{book}
 use Rattle.rules.specs.Standing.{Item, kept, value_place}
-use Rattle.rules.specs.Table.{kept_rows, table_of, laid, no_item, nth}
-use Rattle.rules.specs.Values.{row_parent, row_type, row_instance, row_place, row_length, row_standing}
+use Rattle.rules.specs.Table.{kept_rows, laid, no_item, nth}
+use Rattle.rules.specs.Values.{row_standing}
 use Rattle.rules.specs.Verdicts.{accepted, refused, refuses, check, first, items, judge_checks, judge_verdict}
 use Rattle.rules.specs.Covered.{masked}
-use Rattle.rules.specs.Emitting.{emitted, amply, accepted_whole}
+use Rattle.rules.specs.Emitting.{emitted, amply}
 use Rattle.rules.specs.Cleaned.{pieces, cleaned, is_too_short, clean_verdict, clean_length, clean_copy}
 use Rattle.rules.specs.Answers.{Cleans}
 use Rattle.rules.specs.declared.Verdict.{Verdict}

@@ -1,20 +1,19 @@
 -- Cleaning and masking commute: both ways end with a message whose rows are the message's kept rows, veiled, and such a message is what its rows emit.
 -- Assumes nothing.
-use mathlib.Core.Path.{◌≡◌, refl, sym, ap, ◌∙◌}
+use mathlib.Core.Path.{◌≡◌, sym, ap, ◌∙◌}
 use mathlib.Core.Bool.{Bool, true, false, cond}
-use mathlib.Core.List.{List, [], ◌∷◌, ◌++◌}
-use Prim.Native.Nat.{ℕ, ◌+◌, ◌-◌, ◌≤◌, ◌<◌}
+use mathlib.Core.List.{List}
+use Prim.Native.Nat.{ℕ, ◌+◌, ◌-◌, ◌<◌}
 use native.Mathlib.Omega.{arith}
 use lib.ListN.{length, take, drop, get_or, length-take, length-drop}
 use lib.Seq.{ext_get_or, get_or-take, get_or-drop}
 use Rattle.rules.specs.Sizes.{used}
 use Rattle.rules.specs.Framing.{octet, header_length, flag_t}
 use Rattle.rules.specs.Listings.{Book}
-use Rattle.rules.specs.Standing.{Item}
-use Rattle.rules.specs.Taking.{taken, items_in}
+use Rattle.rules.specs.Taking.{items_in}
 use Rattle.rules.specs.Verdicts.{first, refuses, framing_checks, items, table_checks, judge_checks}
 use Rattle.rules.specs.Covered.{covered, masked}
-use Rattle.rules.specs.Emitting.{remaining, emitted, written, amply, accepted_whole}
+use Rattle.rules.specs.Emitting.{amply, accepted_whole}
 use Rattle.rules.specs.Cleaned.{pieces, cleaned, renumbered}
 use Rattle.rules.specs.Sound.{sound}
 use Rattle.rules.proofs.Checks.{both-pass}
@@ -26,7 +25,7 @@ use Rattle.promises.proofs.Covering.{header_open}
 use Rattle.promises.proofs.Clearing.{masked-at, masked-length}
 use Rattle.promises.proofs.Agreeing.{same_taken}
 use Rattle.promises.proofs.Copies.{masked_open, masked-verdict}
-use Rattle.promises.proofs.Veils.{veiled, remaining-veiled, rows-veiled}
+use Rattle.promises.proofs.Veils.{remaining-veiled, rows-veiled}
 
 -- what is accepted passes 1 to 9
 pub framed : (b : Book) (k : ℕ) (m : List ℕ) → refuses (amply b k m) ≡ false → refuses (first (framing_checks b k m)) ≡ false

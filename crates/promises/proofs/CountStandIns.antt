@@ -1,6 +1,5 @@
 -- Functions that only look like a count of rows are turned down, each by an example. Assumes nothing.
-use mathlib.Core.Path.{◌≡◌, refl, sym, ap, ◌∙◌}
-use mathlib.Core.Bool.{true}
+use mathlib.Core.Path.{◌≡◌, refl, ap, ◌∙◌}
 use mathlib.Core.List.{List, map}
 use Prim.Native.Nat.{ℕ}
 use native.Mathlib.Omega.{arith}
@@ -16,7 +15,6 @@ use Rattle.rules.specs.Verdicts.{accepted, items}
 use Rattle.rules.specs.Counting.{quarter_of}
 use Rattle.rules.specs.Examples.{message_g, message_k, message_s10}
 use Rattle.rules.specs.CountExamples.{Told, countings, count_outcome, count_written}
-use Rattle.rules.specs.declared.Count.{Count}
 use Rattle.rules.proofs.Examples.{all-countings}
 use Rattle.promises.specs.StandIns.{below, AskedCount, Counter, IsCounter}
 

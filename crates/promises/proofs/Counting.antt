@@ -3,11 +3,10 @@
 --     count-table, count_most         the rows of the message's table; and at most a quarter of its octets after eight
 --     count_room                      with a table for so many there is no 10
 --     count_same                      it hangs on no covered octet
-use mathlib.Core.Path.{◌≡◌, refl, sym, ap, ◌∙◌}
-use mathlib.Core.Logic.{◌⊎◌, inl, inr, ◌↔◌}
-use mathlib.Core.Bool.{Bool, true, false, cond}
+use mathlib.Core.Path.{◌≡◌, refl, sym, ap}
+use mathlib.Core.Bool.{Bool, true, false}
 use mathlib.Core.List.{List}
-use Prim.Native.Nat.{ℕ, ◌+◌, ◌-◌, ◌*◌, ◌/◌, ◌≤◌, ◌<◌}
+use Prim.Native.Nat.{ℕ, ◌≤◌}
 use native.Mathlib.Omega.{arith}
 use lib.ListN.{length}
 use Rattle.rules.specs.Sizes.{used}
@@ -24,7 +23,6 @@ use Rattle.rules.proofs.Header.{Passed, framed}
 use Rattle.rules.proofs.Rows.{rows-quarter}
 use Rattle.tables.specs.Words.{rows}
 use Rattle.tables.specs.IsTable.{IsTable}
-use Rattle.verdicts.proofs.Acceptance.{OneOf}
 use Rattle.verdicts.proofs.Calling.{call_framing, one-framed, tabled, framing-passes, fits, ten}
 use Rattle.promises.specs.Agreeing.{SameOpen}
 use Rattle.promises.proofs.Agreeing.{same-framing, same_taken}

@@ -2,9 +2,9 @@
 -- is covered for its own sake alone. Assumes nothing.
 --     veil, veiled      one row, and rows
 --     rows-veiled       the law
-use mathlib.Core.Path.{◌≡◌, refl, sym, ap, ◌∙◌}
+use mathlib.Core.Path.{◌≡◌, refl, sym, ◌∙◌}
 use mathlib.Core.Bool.{Bool, true, false, cond}
-use mathlib.Core.List.{List, [], ◌∷◌, ◌++◌}
+use mathlib.Core.List.{List, [], ◌∷◌}
 use Prim.Native.Nat.{ℕ, ◌+◌, ◌-◌, ◌≤◌, ◌<◌}
 use native.Mathlib.Omega.{arith}
 use native.Mathlib.Decide.{dec_lt}
@@ -13,9 +13,9 @@ use lib.Seq.{ext_get_or, get_or-take, get_or-drop, length-take-le}
 use Rattle.rules.specs.Framing.{octet, header_length}
 use Rattle.rules.specs.Types.{is_group}
 use Rattle.rules.specs.Listings.{Book}
-use Rattle.rules.specs.Standing.{Item, value_place, value_end}
+use Rattle.rules.specs.Standing.{Item, value_place}
 use Rattle.rules.specs.Verdicts.{first, refuses, framing_checks, items}
-use Rattle.rules.specs.Covered.{covered_by, covered_in, covered, open_octets, zeroed, masked}
+use Rattle.rules.specs.Covered.{covered_in, open_octets, zeroed, masked}
 use Rattle.rules.specs.Emitting.{Piece, stays, remaining}
 use Rattle.rules.specs.Cleaned.{received, pieces}
 use Rattle.rules.specs.Sound.{sound}

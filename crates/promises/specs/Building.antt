@@ -1,8 +1,8 @@
 -- What a table of a built message has to do with the table that was given, by the numbers of both and the octets of the values. Assumes nothing.
-use Rattle.std.specs.Prelude.{◌≡◌, Bool, true, false, List, ℕ, ◌-◌, ◌%◌, ◌<◌, take, drop}
+use Rattle.std.specs.Prelude.{◌≡◌, true, false, List, ℕ, ◌-◌, ◌%◌, ◌<◌, take, drop}
 use Rattle.rules.specs.Framing.{octet, flag_t, message_type, header_length}
 use Rattle.rules.specs.Types.{is_group}
-use Rattle.rules.specs.Listings.{Message, book, message_of}
+use Rattle.rules.specs.Listings.{book, message_of}
 use Rattle.rules.specs.Standing.{kept}
 use Rattle.rules.specs.Values.{row_parent, row_type, row_instance, row_place, row_length, row_standing}
 use Rattle.rules.specs.Built.{teid_of, sequence_of}

@@ -1,5 +1,5 @@
 -- What the lookups find in a table that the one call wrote, and in any other. Assumes nothing.
-use Rattle.std.specs.Prelude.{◌≡◌, ◌⊎◌, ◌≢◌, Bool, true, ◌||◌, List, ℕ, ◌≤◌, ◌<◌, length}
+use Rattle.std.specs.Prelude.{◌≡◌, ◌⊎◌, ◌≢◌, true, ◌||◌, List, ℕ, ◌≤◌, ◌<◌, length}
 use Rattle.rules.specs.Framing.{message_type}
 use Rattle.rules.specs.Standing.{kept}
 use Rattle.rules.specs.Values.{row_parent, row_type, row_instance, row_place, row_length, row_standing, table_type, table_kind, reads_as_cut, disagrees}

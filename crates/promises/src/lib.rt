@@ -1,1 +1,3 @@
+#![tactic(auto)]
+
 // What the owner is promised, as theorems about the rules: no function.

@@ -1,20 +1,19 @@
 -- What the walk of the code comes to is what the reading says: the walk of the elements and the walk of the code go side by side. Assumes nothing.
 --     taken-alike   counts, first short element, gap and lent rows are those of the elements taken
-use mathlib.Core.Path.{◌≡◌, refl, sym, ap, ◌∙◌}
+use mathlib.Core.Path.{◌≡◌, refl, sym, ◌∙◌}
 use mathlib.Core.Bool.{Bool, true, false, cond, ◌&&◌}
 use mathlib.Core.List.{List, [], ◌∷◌, ◌++◌}
-use Prim.Native.Nat.{ℕ, zero, suc, ◌+◌, ◌-◌, ◌*◌, ◌/◌, ◌%◌, ◌≤◌, ◌<◌}
+use Prim.Native.Nat.{ℕ, suc, ◌+◌, ◌*◌, ◌/◌, ◌≤◌, ◌<◌}
 use native.Mathlib.Omega.{arith}
 use native.Mathlib.Decide.{dec_le}
-use borrow.Author.Tests.{le-leb, lt-leb, eqb-true, eqb-false, eq-eqb, ne_eqb, ltb-true, ltb-false}
-use lib.Dec.{eqb, ltb, leb}
-use lib.ListN.{length, take, drop, set, length-append, length-take, length-drop}
+use borrow.Author.Tests.{le-leb, lt-leb, ne_eqb}
+use lib.Dec.{eqb}
+use lib.ListN.{length, drop, set, length-append, length-take, length-drop}
 use lib.Seq.{take-nil, take_all, take-append-le, sets, sets-eq, take-append_seam, drop-append-add, drop-drop}
-use Rattle.rules.specs.Sizes.{row_numbers, largest_message}
-use Rattle.rules.specs.Framing.{header_length}
+use Rattle.rules.specs.Sizes.{row_numbers}
 use Rattle.rules.specs.Listings.{book}
 use Rattle.rules.specs.Standing.{Item, fresh, kept, short, value_place}
-use Rattle.rules.specs.Taking.{Out, cut, whole, walk, add_item, at_end, items_of, taken, body_level, items_in}
+use Rattle.rules.specs.Taking.{Out, cut, whole, add_item, at_end, items_of}
 use Rattle.rules.specs.Table.{row, rows_of, kept_rows, laid, fitting}
 use Rattle.rules.specs.Verdicts.{accepted, refused_at, check, refuses, first, short_check, short_checks, short_verdict, lack_verdict}
 use Rattle.rules.specs.declared.Verdict.{Verdict}

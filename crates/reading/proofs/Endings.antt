@@ -1,9 +1,9 @@
 -- The three ways in which a reading ends, each with what it answers and leaves. Assumes nothing.
 --     ends-refused   by 1 to 8          ends-cut   by 9          ends-whole   every element is taken
-use mathlib.Core.Path.{◌≡◌, refl, sym, ap, ◌∙◌}
-use mathlib.Core.Bool.{Bool, true, false, cond}
-use mathlib.Core.List.{List, [], ◌∷◌, ◌++◌}
-use Prim.Native.Nat.{ℕ, ◌+◌, ◌-◌, ◌/◌, ◌≤◌, ◌<◌}
+use mathlib.Core.Path.{◌≡◌, refl, sym, ◌∙◌}
+use mathlib.Core.Bool.{true, false, cond}
+use mathlib.Core.List.{List, [], ◌∷◌}
+use Prim.Native.Nat.{ℕ, ◌+◌, ◌-◌, ◌/◌, ◌≤◌}
 use native.Mathlib.Omega.{arith}
 use lib.ListN.{length, take, drop, length-drop}
 use lib.Seq.{take-nil, take_all}
@@ -11,18 +11,18 @@ use Rattle.rules.specs.Sizes.{row_numbers}
 use Rattle.rules.specs.Framing.{header_length}
 use Rattle.rules.specs.Listings.{book}
 use Rattle.rules.specs.Standing.{Item, fresh}
-use Rattle.rules.specs.Taking.{Out, cut, whole, items_of, taken, body_level, items_in}
-use Rattle.rules.specs.Table.{rows_of, kept_rows, laid, fitting}
+use Rattle.rules.specs.Taking.{Out, cut, whole, items_of, taken, body_level}
+use Rattle.rules.specs.Table.{rows_of, laid, fitting}
 use Rattle.rules.specs.Verdicts.{accepted, refused_at, refuses, first, cut_check, short_verdict, lack_verdict, header_checks, framing_checks}
 use Rattle.rules.specs.Answers.{refused_reading, reading_of, read_items, read_rows, Read}
 use Rattle.rules.specs.declared.Verdict.{Verdict}
 use Rattle.rules.specs.declared.Reading.{Reading}
-use Rattle.rules.proofs.Checks.{first_append, first-pass, all_pass}
+use Rattle.rules.proofs.Checks.{first_append}
 use Rattle.rules.proofs.Header.{Passed, passed}
 use Rattle.rules.proofs.Rows.{Octets, octets-drop, all_fit, body-met, header-least}
 use Rattle.rules.proofs.Book.{book-sound}
 use Rattle.reading.specs.Gaps.{packed, unpacked}
-use Rattle.taking.specs.Held.{Held, held, no_counts, Few}
+use Rattle.taking.specs.Held.{Held, held, no_counts}
 use Rattle.reading.specs.Scan.{whole_reading, scan, Ran}
 use Rattle.taking.specs.declared.Counts.{Counts}
 use Rattle.reading.specs.declared.Walk.TheVariants.{Cut, Whole}

@@ -1,20 +1,20 @@
 -- A refusal that names a place with a pair comes back from its number. Assumes nothing.
 --     unpack      for a refusal whose numbers are small          short-named, lack_named   11 and 12 are such
-use mathlib.Core.Path.{◌≡◌, refl, sym, ap, ◌∙◌}
+use mathlib.Core.Path.{◌≡◌, refl}
 use mathlib.Core.Bool.{Bool, true, false, cond, not, ◌&&◌, ◌||◌}
 use mathlib.Core.List.{List, [], ◌∷◌, ◌++◌}
-use Prim.Native.Nat.{ℕ, zero, suc, ◌+◌, ◌-◌, ◌*◌, ◌/◌, ◌%◌, ◌≤◌, ◌<◌}
+use Prim.Native.Nat.{ℕ, suc, ◌+◌, ◌-◌, ◌*◌, ◌/◌, ◌%◌, ◌≤◌, ◌<◌}
 use native.Mathlib.Omega.{arith}
-use borrow.Author.Tests.{eq-eqb, ne_eqb, ltb-true, lt-ltb}
+use borrow.Author.Tests.{ne_eqb, ltb-true, lt-ltb}
 use lib.Dec.{eqb, ltb}
 use lib.ListN.{length, get_or}
 use Rattle.rules.specs.Listings.{Book, Line, empty_line, any_instance, listing}
-use Rattle.rules.specs.Standing.{Item, value_end}
+use Rattle.rules.specs.Standing.{Item}
 use Rattle.rules.specs.Types.{among}
-use Rattle.rules.specs.Verdicts.{accepted, refused_at, invalid_length, mandatory_missing, check, refuses, first, short_check, short_checks, short_verdict, has_kept, is_mandatory, level_checks, inside_checks, group_checks, lack_checks, lack_verdict}
+use Rattle.rules.specs.Verdicts.{accepted, refused_at, invalid_length, mandatory_missing, check, refuses, first, short_checks, short_verdict, has_kept, is_mandatory, level_checks, inside_checks, group_checks, lack_checks, lack_verdict}
 use Rattle.rules.specs.declared.Verdict.{Verdict}
 use Rattle.rules.specs.Sound.{sound}
-use Rattle.rules.proofs.Lines.{and_left, SoundLine, sound-line, line-sound}
+use Rattle.rules.proofs.Lines.{and_left, sound-line, line-sound}
 use Rattle.rules.proofs.Rows.{Every, Fits}
 use Rattle.taking.specs.Lacks.{fault}
 use Rattle.reading.specs.Gaps.{packed, unpacked}

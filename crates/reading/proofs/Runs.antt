@@ -1,14 +1,14 @@
 -- One turn of `read_run`, in terms of lists and numbers alone: the run ends, is cut, passes an element, or goes on after a group. Assumes nothing.
 use mathlib.Core.Path.{◌≡◌, refl, sym, ap, ◌∙◌}
-use mathlib.Core.Bool.{Bool, true, false}
+use mathlib.Core.Bool.{true, false}
 use mathlib.Core.List.{List}
 use Prim.Native.Nat.{ℕ, zero, suc, ◌+◌, ◌-◌, ◌≤◌, ◌<◌}
 use native.Mathlib.Omega.{arith}
 use lib.ListN.{length, take, drop, length-take, length-drop}
 use lib.Seq.{drop-drop}
-use Rattle.rules.specs.Framing.{element_header, head_of}
+use Rattle.rules.specs.Framing.{head_of}
 use Rattle.rules.specs.Listings.{book}
-use Rattle.rules.specs.Standing.{fresh, item_of, marked, entered}
+use Rattle.rules.specs.Standing.{fresh, entered}
 use Rattle.rules.specs.Taking.{Out, cut, whole, after, inside}
 use Rattle.rules.specs.Frames.{Element, element, seen, frames_of}
 use Rattle.rules.specs.declared.Head.{Head}
@@ -17,7 +17,7 @@ use Rattle.rules.proofs.Covers.{group-level}
 use Rattle.rules.proofs.Book.{book-sound}
 use Rattle.taking.specs.Lacks.{lack_of}
 use Rattle.taking.specs.Held.{Held, held, one, closed, Few, Took}
-use Rattle.reading.specs.Scan.{shut, number, scan, scan_in, walk_of, held_of, Bounded, Ran}
+use Rattle.reading.specs.Scan.{shut, number, scan, scan_in, walk_of, held_of, Ran}
 use Rattle.taking.specs.declared.Counts.{Counts}
 use Rattle.taking.specs.declared.Taken.{Taken}
 use Rattle.listings.proofs.Levels.{depth}

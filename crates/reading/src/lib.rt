@@ -1,4 +1,6 @@
 // The reading of a message: checks 1 to 9, and the rows of every element in octet order.
+#![tactic(auto)]
+
 ghost use Rattle.std.specs.Prelude.{◌≡◌, false, ◌≤◌};
 ghost use Rattle.rules.specs.Listings.{book};
 ghost use Rattle.rules.specs.Answers.{Read, refused_reading};

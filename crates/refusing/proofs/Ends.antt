@@ -10,7 +10,7 @@ use native.Mathlib.Omega.{arith}
 use native.Mathlib.Decide.{dec_lt}
 use native.Mathlib.Numerals.{add-one}
 use lib.Dec.{ltb, leb}
-use lib.ListN.{length, take, drop, get_or, replicate, length-append, length-drop}
+use lib.ListN.{length, take, drop, get_or, replicate, length-drop}
 use lib.Seq.{get_or-append-add, get_or-drop, take-suc, take_all}
 use Rattle.rules.specs.Sizes.{row_numbers}
 use Rattle.rules.specs.Framing.{header_length}
@@ -18,14 +18,13 @@ use Rattle.rules.specs.Types.{groups, is_group}
 use Rattle.rules.specs.Listings.{book}
 use Rattle.rules.specs.Standing.{Item, fresh, value_place, value_end}
 use Rattle.rules.specs.Taking.{Out, cut, whole, taken, body_level, items_in, items_of}
-use Rattle.rules.specs.Table.{rows_of, laid, fitting, no_item, nth}
+use Rattle.rules.specs.Table.{rows_of, laid, no_item, nth}
 use Rattle.rules.specs.Verdicts.{refuses, first, header_checks}
 use Rattle.rules.specs.Answers.{Read, read_items, read_rows}
 use Rattle.rules.specs.declared.Reading.{Reading}
 use Rattle.rules.proofs.Header.{passed}
 use Rattle.rules.proofs.Mets.{cut-met}
 use Rattle.rules.proofs.Rows.{rows-length, quarter, header-least, few-rows}
-use Rattle.verdicts.specs.Conditions.{CutIn}
 use Rattle.verdicts.proofs.Parts.{Part, part_of, part-walk, part-walked}
 use Rattle.scratch.specs.Zeros.{Zeros}
 use Rattle.masking.specs.Clearing.{number}

@@ -6,18 +6,17 @@ use mathlib.Core.Path.{◌≡◌, refl, sym, ap, ◌∙◌}
 use mathlib.Core.Logic.{◌↔◌}
 use mathlib.Core.Bool.{Bool, true, false, cond, ◌&&◌}
 use mathlib.Core.List.{List, [], ◌∷◌, ◌++◌, append-nil}
-use Prim.Native.Nat.{ℕ, suc, ◌+◌, ◌≤◌, ◌<◌}
+use Prim.Native.Nat.{ℕ, ◌+◌, ◌≤◌, ◌<◌}
 use native.Mathlib.Omega.{arith}
 use borrow.Author.Tests.{eq-eqb, le-leb, lt-ltb, le-ltb, ltb-true}
-use lib.Dec.{eqb, ltb}
+use lib.Dec.{ltb}
 use lib.ListN.{length, take, drop, length-drop}
 use Rattle.rules.specs.Framing.{element_header, message_type, header_length}
-use Rattle.rules.specs.Types.{is_group}
 use Rattle.rules.specs.Listings.{book}
-use Rattle.rules.specs.Standing.{Item, fresh, item_of, standing, value_place, value_end}
+use Rattle.rules.specs.Standing.{Item, item_of, standing, value_place, value_end}
 use Rattle.rules.specs.Taking.{cut, taken}
 use Rattle.rules.specs.Table.{table_of}
-use Rattle.rules.specs.Verdicts.{invalid_length, refused_at, refuses, first, header_checks, judge_verdict}
+use Rattle.rules.specs.Verdicts.{invalid_length, refused_at, header_checks, judge_verdict}
 use Rattle.rules.specs.Answers.{read_items}
 use Rattle.rules.proofs.Book.{book-sound}
 use Rattle.rules.proofs.Checks.{all_pass}

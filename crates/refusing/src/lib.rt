@@ -1,4 +1,6 @@
 // The page on a message that 1 to 9 refuse: a title, and what is wrong with its figures; and its octets for a viewer with the right.
+#![tactic(auto)]
+
 ghost use Rattle.std.specs.Prelude.{◌≡◌, cond, ◌+◌, ◌*◌, ◌/◌, ◌%◌, eqb, ltb};
 ghost use Rattle.wording.specs.Puts.{Puts};
 ghost use Rattle.refusing.specs.Refused.{claim, refused_run, title_number, refused_lines, refused_page};

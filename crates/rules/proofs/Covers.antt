@@ -6,18 +6,18 @@ use mathlib.Core.Path.{◌≡◌, refl, sym, ap, ◌∙◌}
 use mathlib.Core.Logic.{◌⊎◌, inl, inr}
 use mathlib.Core.Bool.{Bool, true, false, cond, not, ◌&&◌, ◌||◌}
 use mathlib.Core.List.{List, [], ◌∷◌}
-use Prim.Native.Nat.{ℕ, zero, suc, ◌+◌, ◌≤◌, ◌<◌}
+use Prim.Native.Nat.{ℕ, suc, ◌+◌, ◌≤◌, ◌<◌}
 use native.Mathlib.Omega.{arith}
 use borrow.Author.Tests.{eqb-true, ltb-true, ltb-false, le-ltb, ne_eqb}
-use lib.Dec.{eqb, ltb}
+use lib.Dec.{eqb}
 use lib.ListN.{length, get_or, get_or-eq_default}
-use Rattle.rules.specs.Types.{among, Parted, parteds, added, least_among, least_of, parted, is_parted, least_by_type, groups, is_group, whole_types, covers_whole, rest_types, covers_rest}
+use Rattle.rules.specs.Types.{Parted, parteds, added, least_among, least_of, parted, is_parted, least_by_type, groups, is_group, whole_types, covers_whole, rest_types, covers_rest}
 use Rattle.rules.specs.Listings.{Book, Line, Limit, empty_line, listing}
-use Rattle.rules.specs.Standing.{kept, unexpected, repeated, short, void, line_number, line_in, is_listed, stood_earlier, is_short, is_over, standing, entered, marked, item_of}
+use Rattle.rules.specs.Standing.{kept, short, void, line_number, line_in, is_listed, stood_earlier, is_short, is_over, standing, entered, marked, item_of}
 use Rattle.rules.specs.Covered.{is_aside}
 use Rattle.rules.specs.Sound.{sound, no_limits, is_free}
 use Rattle.rules.specs.Frames.{Frame, Element, exceeds}
-use Rattle.rules.proofs.Lines.{and_left, and_right, among-all, seek-lists, Lists, lists-is, SoundLine, sound-line, line-sound}
+use Rattle.rules.proofs.Lines.{and_left, and_right, among-all, seek-lists, lists-is, sound-line, line-sound}
 use Rattle.rules.proofs.Standings.{Case, is_unexpected, is_repeated, is-short, is-kept, is_void, standing_case, entered-kept, entered-inside}
 
 -- ---- types

@@ -1,23 +1,23 @@
 -- What passing checks 1 to 8 says of a message, and that each check has a number of its own. Assumes nothing.
 --     passed      checks 1 to 8 pass               framed       checks 1 to 9 pass: the elements are all taken
 --     framing_case, call_case, judge_case, clean_case, build_case   a number is given exactly in its own case
-use mathlib.Core.Path.{◌≡◌, refl, sym, ap, ◌∙◌}
+use mathlib.Core.Path.{◌≡◌, refl, sym}
 use mathlib.Core.Logic.{◌⊎◌, inl, inr, ◌↔◌}
-use mathlib.Core.Bool.{Bool, true, false, cond, not, ◌&&◌, ◌||◌, beq}
+use mathlib.Core.Bool.{Bool, true, false, cond, not, ◌||◌}
 use mathlib.Core.List.{List, [], ◌∷◌, ◌++◌}
-use Prim.Native.Nat.{ℕ, zero, suc, ◌+◌, ◌≤◌, ◌<◌}
+use Prim.Native.Nat.{ℕ, suc, ◌+◌, ◌≤◌, ◌<◌}
 use native.Mathlib.Omega.{arith}
 use native.Mathlib.Nat.{pos_of_ne-zero}
 use borrow.Author.Tests.{eqb-true, eqb-false, ltb-false}
-use lib.Dec.{eqb, ltb}
+use lib.Dec.{eqb}
 use lib.ListN.{length, get_or}
-use Rattle.rules.specs.Sizes.{largest_message, used}
+use Rattle.rules.specs.Sizes.{largest_message}
 use Rattle.rules.specs.Framing.{version, flag_p, flag_t, message_type, length_field, header_length}
 use Rattle.rules.specs.Types.{among}
-use Rattle.rules.specs.Listings.{Book, Line, Message, listing, message_of, is_message}
+use Rattle.rules.specs.Listings.{Book, Line, listing, message_of, is_message}
 use Rattle.rules.specs.Standing.{Item}
 use Rattle.rules.specs.Taking.{Out, cut, whole, taken, body_level}
-use Rattle.rules.specs.Verdicts.{accepted, refused, check, refuses, first, cut_check, short_check, short_checks, short_verdict, level_checks, inside_checks, group_checks, lack_checks, lack_verdict, header_checks, framing_checks, items, copy_check, table_checks, judge_checks, call_checks, framing_numbers, judge_numbers, call_numbers}
+use Rattle.rules.specs.Verdicts.{refused, check, refuses, first, cut_check, short_checks, short_verdict, level_checks, inside_checks, group_checks, lack_checks, lack_verdict, header_checks, framing_checks, items, copy_check, table_checks, judge_checks, call_checks, framing_numbers, judge_numbers, call_numbers}
 use Rattle.rules.specs.Cleaned.{is_too_short, clean_checks, clean_numbers}
 use Rattle.rules.specs.Built.{build_checks, build_numbers}
 use Rattle.rules.specs.declared.Verdict.{Verdict}

@@ -3,17 +3,15 @@
 --     walk-late    the walk, with every group entered blind and taken back where it is void
 --     late-count   whether it is void, by the rows that its inside gave        late-cut   an inside that is cut is not void
 use mathlib.Core.Path.{◌≡◌, refl, sym, ap, ◌∙◌}
-use mathlib.Core.Logic.{◌⊎◌, inl, inr}
-use mathlib.Core.Bool.{Bool, true, false, cond, not, ◌&&◌, ◌||◌}
+use mathlib.Core.Bool.{Bool, true, false, cond, not, ◌||◌}
 use mathlib.Core.List.{List, [], ◌∷◌, ◌++◌}
-use Prim.Native.Nat.{ℕ, zero, suc, ◌+◌, ◌-◌, ◌≤◌, ◌<◌}
+use Prim.Native.Nat.{ℕ, zero, suc, ◌+◌, ◌≤◌, ◌<◌}
 use native.Mathlib.Omega.{arith}
-use native.Mathlib.Decide.{ℕ_discrete}
 use borrow.Author.Tests.{eqb-true, ne_eqb, eq-eqb, ltb-true, ltb-false}
 use lib.Dec.{eqb, ltb}
 use lib.ListN.{length, take, drop, get_or, set}
 use Rattle.rules.specs.Framing.{element_header, head_of}
-use Rattle.rules.specs.Listings.{Book, Line, empty_line, listing}
+use Rattle.rules.specs.Listings.{Book, Line, listing}
 use Rattle.rules.specs.Frames.{Frame, Element, seen, frames_of, exceeds}
 use Rattle.rules.specs.Standing.{Item, kept, void, fresh, line_number, line_in, is_listed, is_short, is_over, standing, mark_after, marked, entered, item_of}
 use Rattle.rules.specs.Taking.{Out, cut, whole, after, walk, inside}
@@ -22,10 +20,10 @@ use Rattle.rules.specs.Late.{blind, taken_back, directs}
 use Rattle.rules.specs.Sound.{sound, every_line, is_free, flat_lines, flat_levels, flat}
 use Rattle.rules.proofs.Heads.{at_seen, at-within, fits}
 use Rattle.rules.proofs.Frames.{Filled, none, more, frames-of, over-filled, none_exceed, frame_in, filled_more}
-use Rattle.rules.proofs.Walks.{walk_more, in_none, in_some}
+use Rattle.rules.proofs.Walks.{walk_more, in_some}
 use Rattle.rules.proofs.Mets.{some-octets, made, met-walk, walk-alone}
 use Rattle.rules.proofs.Lines.{and_left, and_right, every-line-at}
-use Rattle.rules.proofs.Standings.{Case, is_unexpected, is_repeated, is-short, is-kept, is_void, standing_case, entered-kept, entered-inside}
+use Rattle.rules.proofs.Standings.{Case, is_unexpected, is_repeated, is-short, is-kept, is_void, standing_case, entered-inside}
 use Rattle.rules.proofs.Rows.{Every}
 use Rattle.rules.proofs.Walked.{met-walked}
 use Rattle.rules.proofs.Places.{parents}

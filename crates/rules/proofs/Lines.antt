@@ -1,16 +1,16 @@
 -- Laws of any listing: what a search finds, and what one test over all levels says of each line. Assumes nothing.
 --     seek-lists   the line that is found lists the pair          seek-own   in a listing with no pair twice, each line is found by its own pair
 --     line-sound, level-distinct, level-size                      what the test says of a level
-use mathlib.Core.Path.{◌≡◌, refl, sym, ap, ◌∙◌}
+use mathlib.Core.Path.{◌≡◌, refl, sym, ◌∙◌}
 use mathlib.Core.Bool.{Bool, true, false, cond, not, ◌&&◌, ◌||◌, beq}
 use mathlib.Core.List.{List, [], ◌∷◌}
-use Prim.Native.Nat.{ℕ, zero, suc, ◌+◌, ◌≤◌, ◌<◌}
+use Prim.Native.Nat.{ℕ, zero, suc, ◌≤◌, ◌<◌}
 use native.Mathlib.Omega.{arith}
 use borrow.Author.Tests.{ltb-true, ltb-false, leb-true, eqb-true, eq-eqb}
-use lib.Dec.{eqb, ltb, leb}
+use lib.Dec.{eqb, ltb}
 use lib.ListN.{length, get_or}
 use Rattle.rules.specs.Types.{among, is_group}
-use Rattle.rules.specs.Listings.{Line, Message, Book, any_instance, lists, seek, empty_line, listing}
+use Rattle.rules.specs.Listings.{Line, Book, any_instance, lists, seek, empty_line, listing}
 use Rattle.rules.specs.Standing.{most_lines}
 use Rattle.rules.specs.Sound.{all, every_line, line_tests, clash, distinct, level_tests, every_level, every_message, sound, is_free}
 

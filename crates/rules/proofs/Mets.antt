@@ -12,7 +12,7 @@ use lib.ListN.{length, take, drop, length-append}
 use Rattle.rules.specs.Framing.{element_header}
 use Rattle.rules.specs.Listings.{Book}
 use Rattle.rules.specs.Standing.{Item, fresh, item_of, marked, entered}
-use Rattle.rules.specs.Taking.{Out, cut, whole, after, walk, inside, add_item, at_end, items_of}
+use Rattle.rules.specs.Taking.{cut, whole, after, walk, add_item, at_end, items_of}
 use Rattle.rules.specs.Met.{At, Met, ends, alone, group, CutAt, here, later, within, behind}
 use Rattle.rules.specs.Frames.{Element, seen}
 use Rattle.rules.proofs.Heads.{fits}

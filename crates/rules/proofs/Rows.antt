@@ -3,21 +3,20 @@
 --     quarter    a run of n octets, as far as it was walked, has at most n / 4 rows
 --     few-rows   a message of at most 4,096 octets has at most 1,022
 --     fit_16     every number of every row fits in 16 bits
-use mathlib.Core.Path.{◌≡◌, refl, sym, ap, ◌∙◌}
+use mathlib.Core.Path.{◌≡◌, refl, ap, ◌∙◌}
 use mathlib.Core.Bool.{Bool, true, false, cond}
 use mathlib.Core.List.{List, [], ◌∷◌, ◌++◌}
 use Prim.Native.Nat.{ℕ, zero, suc, ◌+◌, ◌-◌, ◌*◌, ◌%◌, ◌≤◌, ◌<◌}
 use native.Mathlib.Omega.{arith}
-use native.Mathlib.Nat.{mod-lt}
 use lib.Dec.{eqb}
-use lib.ListN.{length, take, drop, get_or, length-append, length-drop, get_or-eq_default, get_or-append}
-use lib.Seq.{get_or-drop, get_or-take, get_or-append-add}
+use lib.ListN.{length, take, drop, get_or, length-append, length-drop, get_or-append}
+use lib.Seq.{get_or-drop, get_or-append-add}
 use Rattle.rules.specs.Sizes.{largest_message, most_rows, row_numbers}
 use Rattle.rules.specs.Framing.{element_header, octet, header_length, flag_t}
 use Rattle.rules.specs.Listings.{Book}
-use Rattle.rules.specs.Standing.{Item, fresh, kept, void, item_of, standing, marked, entered, value_place, value_end}
-use Rattle.rules.specs.Taking.{Out, cut, whole, taken, body_level}
-use Rattle.rules.specs.Table.{row, rows_of, kept_rows, no_item, nth}
+use Rattle.rules.specs.Standing.{Item, fresh, kept, void, item_of, value_place, value_end}
+use Rattle.rules.specs.Taking.{whole, taken, body_level}
+use Rattle.rules.specs.Table.{row, rows_of, kept_rows, nth}
 use Rattle.rules.specs.Met.{At, Met, ends, alone, group}
 use Rattle.rules.specs.Frames.{Element}
 use Rattle.rules.specs.declared.Head.{Head}

@@ -5,15 +5,15 @@ use mathlib.Core.Path.{◌≡◌, refl, sym, ap, ◌∙◌}
 use mathlib.Core.Logic.{◌≢◌}
 use mathlib.Core.Bool.{Bool, true, false, cond, not, ◌&&◌, ◌||◌}
 use mathlib.Core.List.{List}
-use Prim.Native.Nat.{ℕ, zero, suc, ◌+◌, ◌≤◌, ◌<◌}
+use Prim.Native.Nat.{ℕ, zero, suc, ◌≤◌, ◌<◌}
 use native.Mathlib.Omega.{arith}
 use native.Mathlib.Decide.{ℕ_discrete, dec_lt}
-use borrow.Author.Tests.{ltb-true, lt-ltb, eqb-true, eqb-false, eq-eqb, ne_eqb}
-use lib.Dec.{eqb, ltb}
+use borrow.Author.Tests.{eqb-true, eq-eqb}
+use lib.Dec.{eqb}
 use lib.ListN.{length, get_or, replicate, set, length-set}
 use lib.Seq.{get_or-set_same, get_or-set_other, set_out}
-use Rattle.rules.specs.Listings.{Book, Line, listing}
-use Rattle.rules.specs.Standing.{kept, unexpected, repeated, short, void, most_lines, line_number, line_in, is_listed, stood_earlier, is_short, is_over, standing, mark_after, marked, entered}
+use Rattle.rules.specs.Listings.{Book}
+use Rattle.rules.specs.Standing.{kept, unexpected, repeated, short, void, line_number, line_in, is_listed, stood_earlier, is_short, is_over, standing, mark_after, marked, entered}
 use Rattle.rules.specs.Frames.{Element}
 
 -- before the first element of a level

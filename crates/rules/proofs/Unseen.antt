@@ -1,17 +1,17 @@
 -- What is hidden inside a void row is what stands in its value, in the message. Assumes nothing.
 --     shown, rows-shown   of the rows of a run, and of a message
-use mathlib.Core.Path.{◌≡◌, refl, sym, ap, ◌∙◌}
+use mathlib.Core.Path.{◌≡◌, refl, ap, ◌∙◌}
 use mathlib.Core.Bool.{Bool, true, false, cond}
-use mathlib.Core.List.{List, [], ◌∷◌, ◌++◌}
-use Prim.Native.Nat.{ℕ, ◌+◌, ◌-◌, ◌≤◌, ◌<◌}
+use mathlib.Core.List.{List, []}
+use Prim.Native.Nat.{ℕ, ◌+◌, ◌≤◌, ◌<◌}
 use native.Mathlib.Omega.{arith}
-use borrow.Author.Tests.{eqb-true, eq-eqb}
+use borrow.Author.Tests.{eqb-true}
 use lib.Dec.{eqb}
 use lib.ListN.{length, take, drop, get_or, length-take, length-drop}
 use lib.Seq.{get_or-take, get_or-drop, ext_get_or}
 use Rattle.rules.specs.Framing.{element_header, header_length}
 use Rattle.rules.specs.Listings.{Book}
-use Rattle.rules.specs.Frames.{Frame, Element, frames_of}
+use Rattle.rules.specs.Frames.{Element, frames_of}
 use Rattle.rules.specs.Standing.{Item, void, value_place, item_of, standing, line_in}
 use Rattle.rules.specs.Taking.{whole, taken}
 use Rattle.rules.specs.Met.{At, Met, ends, alone, group}
@@ -19,7 +19,7 @@ use Rattle.rules.specs.Sound.{sound}
 use Rattle.rules.proofs.Heads.{at-within, fits}
 use Rattle.rules.proofs.Frames.{Filled, over-filled, span, filled-span}
 use Rattle.rules.proofs.Rows.{Every, every_append, body-met}
-use Rattle.rules.proofs.Covers.{void-over, void-hides}
+use Rattle.rules.proofs.Covers.{void-over}
 
 -- the octets xs stand in m from `at` on
 pub record Lies (m : List ℕ) (at : ℕ) (xs : List ℕ) : Type 0 where

@@ -1,10 +1,10 @@
 -- The walk does not depend on the number of turns once there are enough, so nobody looks at turns again. Assumes nothing.
 --     walk_nil   nothing is left        walk-cut   no whole element stands at the head       walk_more   one element more
 --     alongside  two walks that make related things of each element come to related outcomes
-use mathlib.Core.Path.{◌≡◌, refl, sym, ap, ◌∙◌}
+use mathlib.Core.Path.{◌≡◌, refl, ap, ◌∙◌}
 use mathlib.Core.Bool.{Bool, true, false, cond}
 use mathlib.Core.List.{List, [], ◌∷◌}
-use Prim.Native.Nat.{ℕ, zero, suc, ◌+◌, ◌-◌, ◌≤◌, ◌<◌}
+use Prim.Native.Nat.{ℕ, zero, suc, ◌+◌, ◌≤◌, ◌<◌}
 use native.Mathlib.Omega.{arith}
 use lib.ListN.{length, take, drop, length-take, length-drop}
 use Rattle.rules.specs.Framing.{element_header}

@@ -1,11 +1,11 @@
 -- What each public function answers and leaves, for every input: the statements that the code's contracts cite whole. Assumes nothing.
-use Rattle.std.specs.Prelude.{◌≡◌, ℕ, ◌*◌, ◌/◌, Bool, true, false, cond, List, [], ltb, length}
+use Rattle.std.specs.Prelude.{◌≡◌, ℕ, ◌*◌, Bool, cond, List, [], ltb, length}
 use Rattle.rules.specs.Sizes.{row_numbers}
 use Rattle.std.specs.Borrow.{Bor}
 use Rattle.rules.specs.Framing.{message_type}
 use Rattle.rules.specs.Listings.{Book, book}
 use Rattle.rules.specs.Standing.{Item}
-use Rattle.rules.specs.Taking.{Out, cut, whole, taken, body_level, items_in}
+use Rattle.rules.specs.Taking.{body_level}
 use Rattle.rules.specs.Table.{rows_of, kept_rows, laid, fitting}
 use Rattle.rules.specs.Verdicts.{accepted, first, refuses, header_checks, framing_checks, short_verdict, lack_verdict, items, call_verdict, call_table}
 use Rattle.rules.specs.Covered.{call_copy}

@@ -1,10 +1,10 @@
 -- The builder (rules 12.1 to 12.6): a message from a TEID, a sequence number, a table, which says message type and kind, and a buffer of values. Assumes
 -- nothing.
-use Rattle.std.specs.Prelude.{◌≡◌, ℕ, zero, suc, ◌+◌, ◌-◌, ◌*◌, ◌/◌, ◌%◌, ◌<◌, Bool, true, false, cond, not, ◌&&◌, ◌||◌, List, [], ◌∷◌, ◌++◌, eqb, ltb, length, take, drop, get_or}
-use Rattle.rules.specs.Sizes.{largest_message, header_numbers, used}
+use Rattle.std.specs.Prelude.{◌≡◌, ℕ, zero, suc, ◌+◌, ◌-◌, ◌*◌, ◌/◌, ◌%◌, ◌<◌, Bool, true, false, cond, not, ◌&&◌, ◌||◌, List, [], ◌∷◌, ◌++◌, eqb, ltb, length, take, drop}
+use Rattle.rules.specs.Sizes.{largest_message, header_numbers}
 use Rattle.rules.specs.Framing.{octet, header_length}
 use Rattle.rules.specs.Types.{among, is_group}
-use Rattle.rules.specs.Listings.{Book, Message, message_of, is_message}
+use Rattle.rules.specs.Listings.{Book, message_of, is_message}
 use Rattle.rules.specs.Standing.{kept}
 use Rattle.rules.specs.Table.{laid}
 use Rattle.rules.specs.Values.{row_parent, row_type, row_instance, row_place, row_length, row_standing, row_count, table_type, table_kind, reads_as_cut, disagrees}

@@ -1,9 +1,9 @@
 -- The cleaned copy (rules 11.1, 11.3, 11.4): rows set aside are left out at all levels, the lengths of groups and header are put right, every other octet is as
 -- it came. Assumes nothing.
-use Rattle.std.specs.Prelude.{◌≡◌, ℕ, ◌+◌, ◌-◌, Bool, true, false, cond, List, [], ◌∷◌, ◌++◌, ltb, length, take, drop}
+use Rattle.std.specs.Prelude.{ℕ, ◌+◌, ◌-◌, cond, List, [], ◌∷◌, ◌++◌, ltb, length, take, drop}
 use Rattle.rules.specs.Framing.{octet, header_length}
 use Rattle.rules.specs.Types.{is_group}
-use Rattle.rules.specs.Listings.{Book, book}
+use Rattle.rules.specs.Listings.{Book}
 use Rattle.rules.specs.Standing.{Item, value_place}
 use Rattle.rules.specs.Taking.{body_level}
 use Rattle.rules.specs.Table.{laid, kept_rows}

@@ -1,5 +1,5 @@
 -- Covered octets, and the masked copy. Assumes nothing.
-use Rattle.std.specs.Prelude.{ℕ, ◌+◌, ◌-◌, Bool, true, false, cond, not, ◌&&◌, ◌||◌, List, [], ◌∷◌, ◌++◌, eqb, ltb, leb, length, take, drop, replicate}
+use Rattle.std.specs.Prelude.{ℕ, ◌+◌, ◌-◌, Bool, false, cond, not, ◌&&◌, ◌||◌, List, [], ◌∷◌, ◌++◌, eqb, ltb, leb, length, take, drop, replicate}
 use Rattle.rules.specs.Types.{covers_whole, covers_rest}
 use Rattle.rules.specs.Listings.{Book}
 use Rattle.rules.specs.Framing.{element_header}

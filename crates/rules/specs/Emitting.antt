@@ -1,5 +1,5 @@
 -- Rows written out as octets (rule 11.2), for any message that is made of rows. Assumes nothing.
-use Rattle.std.specs.Prelude.{ℕ, ◌+◌, ◌/◌, ◌%◌, Bool, true, false, cond, not, ◌&&◌, List, [], ◌∷◌, ◌++◌, eqb, ltb, length}
+use Rattle.std.specs.Prelude.{ℕ, ◌+◌, ◌/◌, ◌%◌, Bool, cond, not, ◌&&◌, List, [], ◌∷◌, ◌++◌, eqb, ltb, length}
 use Rattle.rules.specs.Sizes.{used}
 use Rattle.rules.specs.Framing.{element_header}
 use Rattle.rules.specs.Types.{is_group}

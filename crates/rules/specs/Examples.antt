@@ -1,5 +1,5 @@
 -- The examples A to M, and those of CR 8 and CR 9: what is asked, and what has to come out. Assumes nothing.
-use Rattle.std.specs.Prelude.{ℕ, zero, suc, ◌+◌, Bool, true, false, cond, List, [], ◌∷◌, ◌++◌, length, take, drop, set, replicate}
+use Rattle.std.specs.Prelude.{ℕ, zero, suc, ◌+◌, List, [], ◌∷◌, ◌++◌, length, take, drop, set, replicate}
 use Rattle.rules.specs.Listings.{book}
 use Rattle.rules.specs.Verdicts.{accepted, refused, refused_at, call_verdict, call_table}
 use Rattle.rules.specs.Covered.{call_copy}

@@ -1,5 +1,5 @@
 -- A void group as it is met octet by octet: its inside is taken as though the group were kept, and taken back at its end if it held too much. Assumes nothing.
-use Rattle.std.specs.Prelude.{ℕ, Bool, true, false, cond, List, [], ◌∷◌, eqb}
+use Rattle.std.specs.Prelude.{ℕ, Bool, cond, List, [], ◌∷◌, eqb}
 use Rattle.rules.specs.Frames.{Frame, Element}
 use Rattle.rules.specs.Standing.{Item}
 use Rattle.rules.specs.Taking.{Out, cut, whole}

@@ -1,6 +1,6 @@
 -- What is met in a run of elements, as derivations: that the run is whole and has these elements, or that it is cut at that place. There are no
 -- turns to count and nothing is gathered up: n rows stand before the run, and the elements are the run's own. Assumes nothing.
-use Rattle.std.specs.Prelude.{◌≡◌, ℕ, suc, ◌+◌, ◌<◌, Bool, true, false, List, [], ◌∷◌, ◌++◌, length, take, drop}
+use Rattle.std.specs.Prelude.{◌≡◌, ℕ, suc, ◌+◌, ◌<◌, true, false, List, [], ◌∷◌, ◌++◌, length, take, drop}
 use Rattle.rules.specs.Framing.{element_header}
 use Rattle.rules.specs.Listings.{Book}
 use Rattle.rules.specs.Standing.{Item, fresh, item_of, marked, entered}

@@ -1,5 +1,5 @@
 -- The octet forms for the C receiver: two octets a number, high octet first. Assumes nothing.
-use Rattle.std.specs.Prelude.{ℕ, ◌+◌, ◌*◌, ◌/◌, ◌%◌, Bool, true, false, cond, List, [], ◌∷◌, ltb, length}
+use Rattle.std.specs.Prelude.{ℕ, ◌+◌, ◌*◌, ◌/◌, ◌%◌, cond, List, [], ◌∷◌, ltb, length}
 use Rattle.rules.specs.Sizes.{five_octets, answer_octets}
 use Rattle.rules.specs.Framing.{message_type}
 use Rattle.rules.specs.Listings.{Book}

@@ -1,5 +1,5 @@
 -- Standing of an element: kept, unexpected, repeated, short or void, by the listing of its level and what stood there before it. Assumes nothing.
-use Rattle.std.specs.Prelude.{ℕ, ◌+◌, Bool, true, false, cond, not, ◌&&◌, ◌||◌, List, [], eqb, ltb, length, get_or, set, replicate}
+use Rattle.std.specs.Prelude.{ℕ, ◌+◌, Bool, cond, not, ◌&&◌, ◌||◌, List, [], eqb, ltb, length, get_or, set, replicate}
 use Rattle.rules.specs.Framing.{element_header}
 use Rattle.rules.specs.Types.{least_of}
 use Rattle.rules.specs.Listings.{Line, Book, empty_line, seek, listing}

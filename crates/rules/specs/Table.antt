@@ -1,5 +1,5 @@
 -- The table: a header of six numbers, then six an element (rules 5.1, 5.2). Assumes nothing.
-use Rattle.std.specs.Prelude.{ℕ, suc, ◌+◌, ◌*◌, ◌/◌, Bool, true, false, cond, List, [], ◌∷◌, ◌++◌, eqb, length, take, drop, get_or}
+use Rattle.std.specs.Prelude.{ℕ, suc, ◌*◌, ◌/◌, false, cond, List, [], ◌∷◌, ◌++◌, eqb, length, take, drop, get_or}
 use Rattle.rules.specs.Sizes.{header_numbers, row_numbers, used}
 use Rattle.rules.specs.Standing.{Item, kept, value_place}
 

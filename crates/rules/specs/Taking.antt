@@ -1,8 +1,8 @@
 -- Elements are taken from the first octet on, and an entered group's inside before what stands behind it (rule 2.4). What is made of them is left open: `one s i` is s after
 -- the element i, `shut s v m o` is s at the end of a level, and `number s` is the number of the row taken last. Assumes nothing.
-use Rattle.std.specs.Prelude.{ℕ, zero, suc, ◌+◌, Bool, true, false, cond, List, [], ◌∷◌, ◌++◌, length, take, drop}
+use Rattle.std.specs.Prelude.{ℕ, zero, suc, ◌+◌, cond, List, [], ◌∷◌, ◌++◌, length, take, drop}
 use Rattle.rules.specs.Framing.{element_header, header_length, message_type}
-use Rattle.rules.specs.Listings.{Book, Message, message_of}
+use Rattle.rules.specs.Listings.{Book, message_of}
 use Rattle.rules.specs.Standing.{Item, fresh, item_of, marked, entered}
 use Rattle.rules.specs.Frames.{Element, seen}
 

@@ -13,7 +13,7 @@
 --     152 Node Features         156 EPC Timer                    170 ULI Timestamp         172 RAN/NAS Cause
 --     180 Overload Control Information                           182 Metric                183 Sequence Number
 --     201 Secondary RAT Usage Data Report                        255 Private Extension
-use Rattle.std.specs.Prelude.{ℕ, ◌+◌, ◌/◌, ◌%◌, Bool, true, false, cond, ◌||◌, List, [], ◌∷◌, eqb, ltb}
+use Rattle.std.specs.Prelude.{ℕ, ◌+◌, ◌/◌, ◌%◌, Bool, false, cond, ◌||◌, List, [], ◌∷◌, eqb}
 
 -- a number stands in a list
 abbrev pub among : ℕ → List ℕ → Bool

@@ -1,7 +1,7 @@
 -- Reading a value: the desk's lookup and the plain lookup, over a table that may hold anything at all. Assumes nothing.
-use Rattle.std.specs.Prelude.{◌≡◌, ℕ, zero, suc, ◌+◌, ◌*◌, Bool, true, false, cond, not, ◌&&◌, ◌||◌, List, eqb, ltb, leb, length, get_or, take, drop}
+use Rattle.std.specs.Prelude.{◌≡◌, ℕ, zero, suc, ◌+◌, Bool, true, false, cond, not, ◌&&◌, ◌||◌, List, eqb, ltb, leb, length, get_or, take, drop}
 use Rattle.std.specs.Borrow.{Bor}
-use Rattle.rules.specs.Sizes.{header_numbers, row_numbers, used}
+use Rattle.rules.specs.Sizes.{header_numbers, used}
 use Rattle.rules.specs.Framing.{octet}
 use Rattle.rules.specs.Standing.{kept}
 use Rattle.rules.specs.declared.Span.{Span}

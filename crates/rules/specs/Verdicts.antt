@@ -1,10 +1,10 @@
 -- Verdicts: the first check that is true, in the order of rule 6.2. Assumes nothing.
-use Rattle.std.specs.Prelude.{ℕ, suc, ◌+◌, ◌%◌, Bool, true, false, cond, not, ◌&&◌, ◌||◌, List, [], ◌∷◌, ◌++◌, eqb, ltb, length}
+use Rattle.std.specs.Prelude.{ℕ, suc, ◌+◌, Bool, false, cond, not, ◌&&◌, ◌||◌, List, [], ◌∷◌, ◌++◌, eqb, ltb, length}
 use Rattle.std.specs.Bool.{beq}
 use Rattle.rules.specs.Sizes.{largest_message, used}
 use Rattle.rules.specs.Framing.{version, flag_p, flag_t, message_type, length_field, header_length}
 use Rattle.rules.specs.Types.{among}
-use Rattle.rules.specs.Listings.{Book, Line, Message, is_message, message_of, listing}
+use Rattle.rules.specs.Listings.{Book, Line, is_message, message_of, listing}
 use Rattle.rules.specs.Standing.{Item, kept, short}
 use Rattle.rules.specs.Taking.{Out, cut, whole, taken, body_level, items_in}
 use Rattle.rules.specs.Table.{table_of, laid}

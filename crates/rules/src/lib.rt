@@ -1,5 +1,6 @@
 // The answers that the rules name, and what is read off one element's header. This crate has no function: the rules are
 // definitions in specs/, and the laws about them are in proofs/.
+#![tactic(auto)]
 
 // A verdict is five numbers; acceptance is five zeros.
 #[derive(Clone, Copy)]

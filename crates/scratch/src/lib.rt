@@ -1,4 +1,6 @@
 // What a message is read into, room for few rows or for all, and which of them to try first; and what one is held in.
+#![tactic(auto)]
+
 ghost use Rattle.std.specs.Prelude.{◌≡◌, ◌+◌, ◌<◌, length};
 ghost use Rattle.scratch.specs.Guessing.{Start, Two, crowded};
 ghost use Rattle.scratch.specs.Zeros.{Zeros};

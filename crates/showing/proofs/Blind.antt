@@ -3,11 +3,10 @@
 --     page-blind       of any other: its kind, length and type, the verdict, the table and the masked copy
 --     covered_unseen   so two messages that differ in covered octets alone have one page
 use mathlib.Core.Path.{◌≡◌, refl, sym, ap, ◌∙◌}
-use mathlib.Core.Bool.{Bool, true, false, cond}
-use mathlib.Core.List.{List, [], ◌∷◌, ◌++◌}
-use Prim.Native.Nat.{ℕ, zero, suc, ◌+◌, ◌≤◌, ◌<◌}
+use mathlib.Core.Bool.{Bool, true, false}
+use mathlib.Core.List.{List}
+use Prim.Native.Nat.{ℕ, zero, suc, ◌+◌, ◌<◌}
 use native.Mathlib.Omega.{arith}
-use borrow.Author.Tests.{le-ltb}
 use lib.ListN.{length, take, get_or, replicate}
 use lib.Seq.{take_all, get_or-take}
 use Rattle.rules.specs.Sizes.{largest_message, most_rows, used}

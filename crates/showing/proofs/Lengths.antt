@@ -1,11 +1,11 @@
 -- A page whose values are cut has at most 163,840 octets, so that a buffer of that length never cuts it: a row's line has at most 158, and a message at most
 -- 1,022 rows. Assumes nothing.
-use mathlib.Core.Path.{◌≡◌, refl, ◌∙◌}
+use mathlib.Core.Path.{◌≡◌, refl}
 use mathlib.Core.Bool.{Bool, true, false, cond}
-use mathlib.Core.List.{List, [], ◌∷◌, ◌++◌}
-use Prim.Native.Nat.{ℕ, ◌+◌, ◌*◌, ◌≤◌}
+use mathlib.Core.List.{List}
+use Prim.Native.Nat.{ℕ, ◌≤◌}
 use native.Mathlib.Omega.{arith}
-use lib.ListN.{length, take, get_or, length-append, length-take}
+use lib.ListN.{length, take, length-append, length-take}
 use Rattle.rules.specs.Sizes.{most_rows, used}
 use Rattle.rules.specs.Listings.{book}
 use Rattle.rules.specs.Table.{header, table_of, laid}

@@ -3,14 +3,14 @@
 --     listed          a header before the rows that a decision leaves makes the message's table
 --     called-table    which is what the call leaves, where it accepts
 --     all_shown       it is of the message on the kind by its own header, so the lookups find all its rows
-use mathlib.Core.Path.{◌≡◌, refl, sym, ap, ◌∙◌}
-use mathlib.Core.Bool.{Bool, true, false, cond, ◌||◌}
+use mathlib.Core.Path.{◌≡◌, refl, ap, ◌∙◌}
+use mathlib.Core.Bool.{Bool, true, false, ◌||◌}
 use mathlib.Core.List.{List, [], ◌∷◌, ◌++◌, append-nil}
 use Prim.Native.Nat.{ℕ, ◌+◌, ◌-◌, ◌*◌, ◌≤◌}
 use native.Mathlib.Omega.{arith}
 use borrow.Author.Tests.{lt-ltb, eqb-true}
 use lib.Dec.{eqb}
-use lib.ListN.{length, take, drop, replicate, length-replicate, length-append, length-drop, drop_of_length-le}
+use lib.ListN.{length, take, drop, length-replicate, length-append, length-drop, drop_of_length-le}
 use lib.Seq.{drop-drop, drop_at, take_all, length-take-le}
 use Rattle.rules.specs.Sizes.{largest_message, most_rows, row_numbers, used}
 use Rattle.rules.specs.Framing.{octet, message_type}
@@ -22,11 +22,10 @@ use Rattle.rules.specs.Covered.{call_copy}
 use Rattle.rules.specs.Taking.{items_in}
 use Rattle.rules.specs.Values.{table_rows}
 use Rattle.rules.specs.Answers.{reading_of, decision_of, Decided}
-use Rattle.rules.specs.declared.Verdict.{Verdict}
 use Rattle.rules.specs.declared.Decision.{Decision}
 use Rattle.rules.proofs.Book.{book-sound}
 use Rattle.rules.proofs.Header.{framed}
-use Rattle.rules.proofs.Rows.{rows-length, kept-most}
+use Rattle.rules.proofs.Rows.{kept-most}
 use Rattle.rules.proofs.Readings.{few, count_is, kept_is, all_laid}
 use Rattle.tables.specs.IsTable.{IsTable}
 use Rattle.tables.proofs.Rowed.{laid-begins, laid_of, count_of}

@@ -1,4 +1,6 @@
 // The desk's page on a message, with the values that the viewer may see.
+#![tactic(auto)]
+
 ghost use Rattle.std.specs.Prelude.{◌≡◌, ◌≤◌, length, replicate};
 ghost use Rattle.rules.specs.Sizes.{most_rows, used};
 ghost use Rattle.rules.specs.Types.{among};

@@ -1,4 +1,6 @@
 // The standing of an element whose pair is listed, the mark that it leaves, and which of two faults comes first.
+#![tactic(auto)]
+
 ghost use Rattle.std.specs.Prelude.{◌≡◌, cond, not, ◌&&◌, eqb};
 ghost use Rattle.rules.specs.Standing.{mark_after};
 ghost use Rattle.standings.specs.Faults.{first_fault, lesser};

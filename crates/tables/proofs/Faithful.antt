@@ -1,9 +1,9 @@
 -- A row says what the message's octets at its place say: what a level has left is a part of the message, wherever the walk stands. Assumes nothing.
-use mathlib.Core.Path.{◌≡◌, refl, sym, ap, ◌∙◌}
+use mathlib.Core.Path.{◌≡◌, sym, ap, ◌∙◌}
 use mathlib.Core.List.{List, [], ◌∷◌}
 use Prim.Native.Nat.{ℕ, zero, suc, ◌+◌, ◌-◌, ◌%◌, ◌≤◌, ◌<◌}
 use native.Mathlib.Omega.{arith}
-use lib.ListN.{length, take, drop, length-take, length-drop}
+use lib.ListN.{length, take, drop, length-drop}
 use lib.Seq.{get_or-take, get_or-drop, take-nil, take-take, drop-drop, length-take-le, take_all}
 use Rattle.rules.specs.Framing.{octet, two_octets, element_header, header_length}
 use Rattle.rules.specs.Listings.{Book}

@@ -24,7 +24,7 @@ use Rattle.rules.proofs.Standings.{Case, is_unexpected, is_repeated, is-short, i
 use Rattle.rules.proofs.Pairs.{Once, new-mark}
 use Rattle.tables.specs.Levels.{level_of}
 use Rattle.tables.specs.Words.{first_value}
-use Rattle.tables.specs.Standings.{its_listing, its_number, Listed, Again, its_least, Below, its_frames, its_limits, Over, StandsAs}
+use Rattle.tables.specs.Standings.{its_listing, its_number, Listed, Again, its_least, Below, its_frames, its_limits, StandsAs}
 use Rattle.tables.proofs.Tests.{clash}
 
 -- a row before n with the parent p has the pair y/i

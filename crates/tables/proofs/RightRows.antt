@@ -6,7 +6,6 @@ use mathlib.Core.List.{List}
 use Prim.Native.Nat.{ℕ, zero, suc, ◌+◌, ◌%◌, ◌≤◌, ◌<◌}
 use native.Mathlib.Omega.{arith}
 use lib.ListN.{length}
-use lib.Seq.{get_or-drop}
 use Rattle.rules.specs.Sizes.{used}
 use Rattle.rules.specs.Framing.{octet, two_octets, header_length, message_type}
 use Rattle.rules.specs.Types.{is_group}

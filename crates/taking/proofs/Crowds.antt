@@ -3,16 +3,16 @@
 use mathlib.Core.Path.{◌≡◌, refl, sym, ap, ◌∙◌}
 use mathlib.Core.Bool.{Bool, true, false, cond, not, ◌&&◌, ◌||◌, or-false}
 use mathlib.Core.List.{List, [], ◌∷◌}
-use Prim.Native.Nat.{ℕ, zero, suc, ◌+◌, ◌-◌, ◌≤◌, ◌<◌}
+use Prim.Native.Nat.{ℕ, zero, suc, ◌+◌, ◌≤◌, ◌<◌}
 use native.Mathlib.Omega.{arith}
 use native.Mathlib.Nat.{add-zero, zero-add}
-use borrow.Author.Tests.{eqb-true, le-ltb}
+use borrow.Author.Tests.{eqb-true}
 use lib.Dec.{eqb, ltb}
-use lib.ListN.{length, take, drop, get_or, length-drop}
+use lib.ListN.{length, drop, get_or, length-drop}
 use lib.Seq.{drop-drop}
 use Rattle.rules.specs.Framing.{element_header, head_of}
 use Rattle.rules.specs.Listings.{Limit, Line, empty_line, levels, book, listing}
-use Rattle.rules.specs.Frames.{Frame, filled_by, frames_by, frames_of, tally, exceeds}
+use Rattle.rules.specs.Frames.{filled_by, frames_by, frames_of, tally, exceeds}
 use Rattle.rules.specs.Sound.{every_line, no_limits, is_free}
 use Rattle.rules.specs.declared.Head.{Head}
 use Rattle.rules.proofs.Lines.{and_left, and_right, every-line-at}

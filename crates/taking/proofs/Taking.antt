@@ -1,20 +1,20 @@
 -- What taking one element leaves, put together from what its steps leave. Assumes nothing.
 --     took_unlisted   the pair is not listed          took-kept   the element is kept          took-aside   it is not
-use mathlib.Core.Path.{◌≡◌, refl, sym, ap, ◌∙◌}
+use mathlib.Core.Path.{◌≡◌, refl, sym, ◌∙◌}
 use mathlib.Core.Bool.{Bool, true, false, cond, not, ◌&&◌}
 use mathlib.Core.List.{List, []}
 use Prim.Native.Nat.{ℕ, ◌+◌, ◌≤◌, ◌<◌}
 use native.Mathlib.Omega.{arith}
 use borrow.Author.Tests.{lt-ltb, le-ltb, ne_eqb}
-use lib.Dec.{eqb, ltb}
+use lib.Dec.{eqb}
 use lib.ListN.{length, get_or, set, get_or-eq_default}
-use Rattle.rules.specs.Listings.{Line, empty_line, book, seek, listing}
+use Rattle.rules.specs.Listings.{empty_line, book, seek, listing}
 use Rattle.rules.specs.Standing.{Item, kept, mark_after, is_short, line_number, line_in, is_listed, is_over, standing, marked, entered, item_of}
 use Rattle.rules.specs.Sound.{is_free}
 use Rattle.rules.specs.Frames.{Frame, Element, element, exceeds}
 use Rattle.rules.specs.declared.Head.{Head}
 use Rattle.taking.specs.Lacks.{fault}
-use Rattle.taking.specs.Held.{Held, held, one, count, counted, short_of, put_numbers, put_row, Few, Took}
+use Rattle.taking.specs.Held.{held, one, count, counted, short_of, put_numbers, put_row, Few, Took}
 use Rattle.taking.specs.declared.Counts.{Counts}
 
 more-kept : (b : Bool) (k n : ℕ) → k ≤ n → cond b (k + 1) k ≤ n + 1

@@ -1,5 +1,5 @@
 -- What is made of the elements as they are taken: the counts, the first mandatory short element, what the levels lack, and the lent rows. Assumes nothing.
-use Rattle.std.specs.Prelude.{◌≡◌, ℕ, ◌+◌, ◌*◌, ◌≤◌, ◌<◌, Bool, true, false, cond, not, ◌&&◌, List, eqb, leb, length, drop, set}
+use Rattle.std.specs.Prelude.{◌≡◌, ℕ, ◌+◌, ◌*◌, ◌≤◌, ◌<◌, Bool, true, cond, not, ◌&&◌, List, eqb, leb, length, drop, set}
 use Rattle.rules.specs.Sizes.{row_numbers, largest_message}
 use Rattle.rules.specs.Framing.{head_of}
 use Rattle.rules.specs.Listings.{any_instance, book}

@@ -1,5 +1,7 @@
 // What one element does at its level, and what a level's end finds: the rules that the reading of a message follows below its header,
 // whatever way its octets come. These are no entry points: a function here may ask for what its callers show.
+#![tactic(auto)]
+
 ghost use Rattle.std.specs.Prelude.{◌≡◌};
 ghost use Rattle.taking.specs.Lent.{Octet};
 ghost use Rattle.taking.specs.Held.{no_counts};

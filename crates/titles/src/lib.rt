@@ -1,4 +1,6 @@
 // What stands over the rows: title, the numbers of the header, the verdict, and the heads of the columns.
+#![tactic(auto)]
+
 ghost use Rattle.std.specs.Prelude.{◌≡◌, eqb, ◌/◌, ◌%◌};
 ghost use Rattle.rules.specs.Framing.{flag_t};
 ghost use Rattle.wording.specs.Puts.{Puts};

@@ -5,12 +5,12 @@
 use mathlib.Core.Path.{◌≡◌, refl, sym, ap, ◌∙◌}
 use mathlib.Core.Bool.{true}
 use mathlib.Core.List.{List}
-use Prim.Native.Nat.{ℕ, zero, suc, ◌+◌, ◌-◌, ◌*◌, ◌≤◌, ◌/◌, ◌%◌, ◌<◌}
+use Prim.Native.Nat.{ℕ, zero, suc, ◌+◌, ◌*◌, ◌≤◌, ◌/◌, ◌%◌, ◌<◌}
 use native.Mathlib.Omega.{arith}
 use native.Mathlib.Decide.{dec_lt}
 use lib.ListN.{length-drop, length, drop, get_or}
 use Rattle.rules.specs.Sizes.{row_numbers, used}
-use Rattle.rules.specs.Framing.{message_type, element_header, header_length}
+use Rattle.rules.specs.Framing.{element_header, header_length}
 use Rattle.rules.specs.Listings.{Book}
 use Rattle.rules.specs.Standing.{Item, fresh}
 use Rattle.rules.specs.Taking.{whole, taken, body_level}

@@ -1,15 +1,12 @@
 -- What is put is what the exports answer and leave. Assumes nothing.
 use mathlib.Core.Path.{◌≡◌, subst}
-use mathlib.Core.List.{List, []}
+use mathlib.Core.List.{List}
 use Prim.Native.Nat.{ℕ}
-use native.Mathlib.Omega.{arith}
 use borrow.Author.Tests.{eq-eqb, ne_eqb}
-use lib.ListN.{length, take}
 use Rattle.wording.specs.Puts.{Puts}
 use Rattle.wording.proofs.Puts.{puts-start, puts-same, puts_none}
 use Rattle.phrases.specs.Table.{messages, text_for}
 use Rattle.phrases.specs.Names.{element_name}
-use Rattle.columns.specs.declared.View.{View}
 use Rattle.showing.specs.Showing.{page_on}
 use Rattle.wokdesk.specs.Names.{names}
 use Rattle.wokdesk.specs.Pages.{view_of, page_for, Paged, name_for, Called}

@@ -1,4 +1,6 @@
 // The desk's page for programs in other languages, with the names of Table 8.1-1; and names alone.
+#![tactic(auto)]
+
 ghost use Rattle.wokdesk.specs.Pages.{Paged, Called};
 
 use columns::View;

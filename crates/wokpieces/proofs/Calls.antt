@@ -1,27 +1,24 @@
 -- The ways out of the exports. Assumes nothing.
-use mathlib.Core.Path.{◌≡◌, refl, sym, ap, ◌∙◌}
+use mathlib.Core.Path.{◌≡◌, sym, ap, ◌∙◌}
 use mathlib.Core.Bool.{Bool, true, false, cond, not}
-use mathlib.Core.List.{List, [], ◌∷◌, ◌++◌}
-use Prim.Native.Nat.{ℕ, ◌+◌, ◌*◌, ◌/◌, ◌≤◌, ◌<◌}
+use mathlib.Core.List.{List, ◌++◌}
+use Prim.Native.Nat.{ℕ, ◌*◌, ◌≤◌, ◌<◌}
 use native.Mathlib.Omega.{arith}
 use borrow.Author.Tests.{lt-ltb, le-ltb}
-use lib.Dec.{ltb}
 use lib.ListN.{length, take, drop, replicate, length-take, length-replicate}
 use lib.Seq.{take_all}
-use Rattle.rules.specs.Sizes.{header_numbers}
-use Rattle.rules.specs.Table.{laid}
-use Rattle.rules.specs.Octets.{octets_of, numbers_in, table_room}
+use Rattle.rules.specs.Octets.{numbers_in, table_room}
 use Rattle.rules.specs.Verdicts.{accepted}
 use Rattle.rules.specs.declared.Verdict.{Verdict}
 use Rattle.rules.proofs.Rows.{Octets}
 use Rattle.rules.proofs.Numbers.{numbers-length}
 use Rattle.pieces.specs.declared.Pieces.{Pieces}
 use Rattle.pieces.specs.Feeding.{zeros}
-use Rattle.pieces.specs.Answers.{takes, out, start_of, part_told, part_table, ended_by, verdict_by, end_table}
+use Rattle.pieces.specs.Answers.{takes, out, start_of, part_told, part_table, ended_by, verdict_by}
 use Rattle.pieces.specs.Agreements.{FitsAll}
 use Rattle.pieces.proofs.Accepting.{cond_yes, cond_no, not_so, not-not}
 use Rattle.keeping.specs.Kept.{state_size, kept_in, state_in}
-use Rattle.wokpieces.specs.Exports.{is_too_short, takes_in, Takes, Told, Finished, FedTable, StartedOctets, PartedOctets, EndedOctets}
+use Rattle.wokpieces.specs.Exports.{takes_in, Takes, Told, Finished, FedTable, StartedOctets, PartedOctets, EndedOctets}
 use Rattle.wokpieces.proofs.Twos.{numbers-take, laid_by, zeros-read}
 
 -- ---- the start

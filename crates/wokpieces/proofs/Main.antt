@@ -5,10 +5,9 @@ use mathlib.Core.Path.{◌≡◌, refl, sym, ap, ◌∙◌}
 use mathlib.Core.Logic.{◌≢◌}
 use mathlib.Core.Bool.{Bool, true, false, cond}
 use mathlib.Core.List.{List, [], ◌∷◌, ◌++◌, append-nil, append_assoc}
-use Prim.Native.Nat.{ℕ, ◌+◌, ◌*◌, ◌/◌, ◌≤◌, ◌<◌}
+use Prim.Native.Nat.{ℕ, ◌*◌, ◌≤◌}
 use native.Mathlib.Omega.{arith}
 use borrow.Author.Tests.{le-ltb, ltb-false}
-use lib.Dec.{ltb}
 use lib.ListN.{length, take, drop, length-append, length-take, length-drop, length-replicate}
 use lib.Seq.{drop_at}
 use Rattle.rules.specs.Sizes.{used}
@@ -25,7 +24,7 @@ use Rattle.pieces.specs.declared.Pieces.{Pieces}
 use Rattle.pieces.specs.declared.Told.{Told}
 use Rattle.pieces.specs.Feeding.{zeros, joined_parts}
 use Rattle.pieces.specs.Coded.{feed_all_by}
-use Rattle.pieces.specs.Answers.{takes, out, told_out, start_of, part_told, part_table, end_told, end_table, reading_by, verdict_by, ended_by}
+use Rattle.pieces.specs.Answers.{takes, out, start_of, part_told, part_table, end_told, end_table, reading_by, verdict_by, ended_by}
 use Rattle.pieces.proofs.Accepting.{cond_yes, cond_no}
 use Rattle.pieces.proofs.Main.{all-length, taken_is, after-end, other_length}
 use Rattle.pieces.proofs.Promised as parts

@@ -1,6 +1,6 @@
 -- Arrays of a state stay as long as they are: a step sets what is there, and a new level has fresh marks. Assumes nothing.
 --     sane-start, sane-part, sane-end, formed   so a state that is kept is read again as it was
-use mathlib.Core.Path.{◌≡◌, refl, sym, ap, ◌∙◌}
+use mathlib.Core.Path.{◌≡◌, refl, ◌∙◌}
 use mathlib.Core.Bool.{Bool, true, false, cond, not, ◌&&◌}
 use mathlib.Core.List.{List, [], ◌∷◌}
 use Prim.Native.Nat.{ℕ, zero, suc, ◌+◌, ◌-◌, ◌≤◌, ◌<◌}
@@ -11,13 +11,10 @@ use lib.ListN.{length, get_or, set, drop, replicate, length-set}
 use Rattle.rules.specs.Sizes.{header_numbers}
 use Rattle.rules.specs.Framing.{element_header, value_length, length_field, header_length}
 use Rattle.rules.specs.Listings.{book}
-use Rattle.rules.specs.Standing.{fresh, marked}
-use Rattle.rules.specs.Taking.{body_level}
 use Rattle.rules.specs.Verdicts.{accepted, opening_checks, refuses, first}
 use Rattle.rules.specs.Frames.{Element}
 use Rattle.rules.proofs.Lines.{and_right}
 use Rattle.rules.proofs.Standings.{marked-length}
-use Rattle.taking.specs.Lacks.{lack_of}
 use Rattle.taking.specs.Frames.{apns_of}
 use Rattle.taking.specs.Held.{no_counts}
 use Rattle.pieces.specs.Drafts.{limited_level, back_by}
@@ -28,15 +25,13 @@ use Rattle.pieces.specs.declared.Pieces.{Pieces}
 use Rattle.pieces.specs.Depth.{deepest}
 use Rattle.pieces.specs.Steps.{opened}
 use Rattle.pieces.specs.Feeding.{count_on}
-use Rattle.pieces.specs.Coded.{no_open, blank_open, top_of, with_depth, with_have, stop, closed_by, close_top, close_tops, check_top, settle_top, beyond, into, with_watch, watched_by, gather_by, pass_one, idle_by, entry_by, Fed, fed_with, next_held, enters, next_open, placed, head_on, taken_by, take_by, headed_by, eat_by, body_by, with_going, head_after, in_header_by, FedPieces, feed_by, feed_all_by}
-use Rattle.pieces.specs.Fits.{Sized, Fits}
+use Rattle.pieces.specs.Coded.{no_open, blank_open, top_of, with_depth, with_have, stop, closed_by, close_top, close_tops, check_top, settle_top, beyond, into, with_watch, watched_by, gather_by, pass_one, idle_by, entry_by, fed_with, enters, next_open, placed, head_on, taken_by, take_by, headed_by, eat_by, body_by, with_going, head_after, in_header_by, FedPieces, feed_by, feed_all_by}
 use Rattle.pieces.specs.Agreements.{FitsAll}
 use Rattle.pieces.specs.declared.Told.{Told}
 use Rattle.pieces.specs.Answers.{takes, start_of, told_out, part_told, ended_by}
-use Rattle.pieces.proofs.Fits.{eat-fits}
 use Rattle.pieces.proofs.Tests.{test_fits}
 use Rattle.pieces.proofs.Feeds.{all-fits}
-use Rattle.keeping.specs.Kept.{Formed, nth}
+use Rattle.keeping.specs.Kept.{Formed}
 
 -- ---- the arrays of a walk
 

@@ -3,14 +3,14 @@
 use mathlib.Core.Path.{◌≡◌, refl, sym, ap, ◌∙◌}
 use mathlib.Core.Bool.{Bool, true, false, cond, not}
 use mathlib.Core.List.{List, [], ◌∷◌, ◌++◌, append-nil}
-use Prim.Native.Nat.{ℕ, zero, suc, ◌+◌, ◌-◌, ◌*◌, ◌/◌, ◌≤◌, ◌<◌}
+use Prim.Native.Nat.{ℕ, suc, ◌+◌, ◌-◌, ◌*◌, ◌/◌, ◌≤◌, ◌<◌}
 use native.Mathlib.Omega.{arith}
 use native.Mathlib.Nat.{pos_of_ne-zero}
 use borrow.Author.Tests.{leb-true, leb-false, le-leb, lt-leb, lt-ltb, le-ltb, eq-eqb, ne_eqb}
-use lib.Dec.{eqb, ltb, leb}
+use lib.Dec.{leb}
 use lib.ListN.{length, get_or, set, take, drop, replicate, length-set, length-append, length-replicate, length-take, length-drop, drop_of_length-le}
-use lib.Seq.{set_out, take_all, take-take}
-use Rattle.rules.specs.Sizes.{header_numbers, row_numbers, used}
+use lib.Seq.{set_out, take_all}
+use Rattle.rules.specs.Sizes.{used}
 use Rattle.rules.specs.Framing.{octet, message_type}
 use Rattle.rules.specs.Octets.{octets_of, numbers_in, table_room}
 use Rattle.rules.specs.Verdicts.{refuses}

@@ -3,9 +3,9 @@
 --     octets-again   and back          laid_by   octets that hold numbers, with an odd one after them          zeros-read
 use mathlib.Core.Path.{◌≡◌, refl, sym, ap, ◌∙◌}
 use mathlib.Core.List.{List, [], ◌∷◌, ◌++◌}
-use Prim.Native.Nat.{ℕ, zero, suc, ◌+◌, ◌-◌, ◌*◌, ◌/◌, ◌%◌, ◌≤◌, ◌<◌}
+use Prim.Native.Nat.{ℕ, zero, suc, ◌+◌, ◌*◌, ◌/◌, ◌%◌, ◌<◌}
 use native.Mathlib.Omega.{arith}
-use lib.ListN.{length, get_or, set, take, drop, replicate, length-append, length-take, length-drop}
+use lib.ListN.{length, set, take, drop, replicate}
 use lib.Seq.{take-nil, drop-nil, take_at}
 use Rattle.rules.specs.Table.{laid}
 use Rattle.rules.specs.Octets.{octets_of, number_of, numbers_in}

@@ -1,5 +1,5 @@
 -- What the exports of the pieces form answer and leave, for every state, table and part that is lent. Assumes nothing.
-use Rattle.std.specs.Prelude.{◌≡◌, ℕ, ◌+◌, ◌*◌, ◌≤◌, Bool, true, false, cond, not, ◌&&◌, List, ◌++◌, ltb, leb, length, get_or, take, drop}
+use Rattle.std.specs.Prelude.{◌≡◌, ℕ, ◌+◌, ◌*◌, ◌≤◌, Bool, true, false, cond, List, ◌++◌, ltb, leb, length, get_or, take, drop}
 use Rattle.rules.specs.Sizes.{header_numbers}
 use Rattle.rules.specs.Table.{laid}
 use Rattle.rules.specs.Verdicts.{accepted}

@@ -1,4 +1,6 @@
 // The pieces form, exported to C: state and table go as octets, and the code is the result. It is a library of its own, so that the judge's stays as it is.
+#![tactic(auto)]
+
 ghost use Rattle.std.specs.Prelude.{◌≡◌, ◌-◌, ◌≤◌, length, replicate};
 ghost use Rattle.rules.specs.Octets.{numbers_in};
 ghost use Rattle.pieces.specs.Drafts.{blanks, stand_void, back_to};

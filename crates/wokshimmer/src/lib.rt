@@ -1,4 +1,6 @@
 // The exports to C: numbers go as octets, and the code is the result.
+#![tactic(auto)]
+
 ghost use Rattle.rules.specs.Answers.{CalledOctets, CleanedOctets, BuiltOctets, CountedOctets};
 
 // The verdict's code; its five numbers go to `five`, on acceptance the table to `table`, and the masked copy to `copy`, where 11 or 12 refuse, too.

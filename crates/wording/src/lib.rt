@@ -1,4 +1,6 @@
 // Text into a lent buffer, octet by octet, as far as the buffer reaches.
+#![tactic(auto)]
+
 ghost use Rattle.std.specs.Prelude.{◌≡◌, [], ◌∷◌, ◌+◌, ◌%◌, ◌≤◌, ◌<◌, length};
 ghost use Rattle.rules.specs.Program.{digit_at, decimal};
 ghost use Rattle.wording.specs.Puts.{Puts};

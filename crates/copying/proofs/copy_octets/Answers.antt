@@ -1,5 +1,4 @@
 -- `copy_octets` goes by the octets that are laid so far. Assumes nothing.
-use Prim.Native.Nat.{◌-◌}
 use native.Mathlib.Omega.{arith}
 use Rattle.copying.proofs.Copying.{none-laid, next-laid, all_laid, too_short}
 use Rattle.copying.proofs.copy_octets.Goals as goal

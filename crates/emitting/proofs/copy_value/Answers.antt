@@ -1,5 +1,4 @@
 -- `copy_value` copies octet by octet. Assumes nothing.
-use Prim.Native.Nat.{◌-◌}
 use native.Mathlib.Omega.{arith}
 use Rattle.emitting.proofs.Puts.{copy-begins, copy_goes, copy-ends}
 use Rattle.emitting.proofs.copy_value.Goals as goal

@@ -1,9 +1,6 @@
 -- `inside` sums up to the first row whose parent stands before. Assumes nothing.
-use Prim.Native.Nat.{◌-◌}
 use native.Mathlib.Omega.{arith}
 use Rattle.emitting.proofs.Puts.{within-begins, within-goes, within-stops, within-ends}
-use Rattle.emitting.proofs.size.Reads as size-reads
-use Rattle.emitting.proofs.wide.Reads as wide-reads
 use Rattle.emitting.proofs.inside.Goals as goal
 
 pub overflow_add-j : goal.overflow_add-j

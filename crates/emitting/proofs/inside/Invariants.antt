@@ -1,8 +1,6 @@
 -- `inside` sums up to the first row whose parent stands before. Assumes nothing.
 use Prim.Native.Nat.{◌-◌}
 use Rattle.emitting.proofs.Puts.{Within}
-use Rattle.emitting.proofs.size.Reads as size-reads
-use Rattle.emitting.proofs.wide.Reads as wide-reads
 use Rattle.emitting.proofs.inside.Given as goal
 
 abbrev pub invariant-loop-j : goal.invariant-loop-j

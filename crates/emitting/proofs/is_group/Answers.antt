@@ -3,7 +3,6 @@ use mathlib.Core.Path.{sym, ◌∙◌}
 use native.Mathlib.Omega.{arith}
 use Rattle.facts.proofs.Facts.{group-is}
 use Rattle.facts.proofs.Groups.{no_group}
-use Rattle.facts.proofs.group.Reads as group-Reads
 use Rattle.emitting.proofs.is_group.Goals as goal
 
 pub returns-then-typ-gt255 : goal.returns-then-typ-gt255

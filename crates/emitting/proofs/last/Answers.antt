@@ -1,6 +1,5 @@
 -- `last` reads the octet before the value, or the instance. Assumes nothing.
 use native.Mathlib.Omega.{arith}
-use Rattle.emitting.proofs.wide.Reads as wide-reads
 use Rattle.emitting.proofs.last.Goals as goal
 
 pub overflow_sub-result : goal.overflow_sub-result

@@ -1,5 +1,4 @@
 -- `put_rows` goes by the rows that are laid so far. Assumes nothing.
-use Prim.Native.Nat.{◌-◌}
 use native.Mathlib.Omega.{arith}
 use Rattle.emitting.proofs.Overs.{put-begins, put_asks, put-goes, put-ends}
 use Rattle.emitting.proofs.put_rows.Goals as goal

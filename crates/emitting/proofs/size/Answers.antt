@@ -1,8 +1,6 @@
 -- `size` goes by the standing, then by the type. Assumes nothing.
 use mathlib.Core.Path.{sym, ◌∙◌}
 use Rattle.emitting.proofs.Puts.{size-aside, size-group, size-value}
-use Rattle.emitting.proofs.is_group.Reads as is-group-reads
-use Rattle.emitting.proofs.wide.Reads as wide-reads
 use Rattle.emitting.proofs.size.Goals as goal
 
 pub returns-then-rows-at-ne0 : goal.returns-then-rows-at-ne0

@@ -1,8 +1,6 @@
 -- `sizes` sums row by row. Assumes nothing.
-use Prim.Native.Nat.{◌-◌}
 use native.Mathlib.Omega.{arith}
 use Rattle.emitting.proofs.Puts.{sum-begins, sum_goes, sum-ends}
-use Rattle.emitting.proofs.size.Reads as size-reads
 use Rattle.emitting.proofs.sizes.Goals as goal
 
 pub loop-n-init : goal.loop-n-init

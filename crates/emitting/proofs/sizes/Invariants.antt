@@ -1,7 +1,6 @@
 -- `sizes` sums row by row. Assumes nothing.
 use Prim.Native.Nat.{◌-◌}
 use Rattle.emitting.proofs.Puts.{Summing}
-use Rattle.emitting.proofs.size.Reads as size-reads
 use Rattle.emitting.proofs.sizes.Given as goal
 
 abbrev pub invariant-loop-n : goal.invariant-loop-n

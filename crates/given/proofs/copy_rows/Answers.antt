@@ -1,6 +1,5 @@
 -- `copy_rows` reads number after number. Assumes nothing.
 use native.Mathlib.Omega.{arith}
-use Prim.Native.Nat.{◌-◌}
 use mathlib.Core.List.{[]}
 use Rattle.given.proofs.Tables.{table-length, copy-begins, copy_goes, copy-ends}
 use Rattle.given.proofs.copy_rows.Goals as goal

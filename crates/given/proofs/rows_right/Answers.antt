@@ -2,7 +2,6 @@
 use mathlib.Core.Bool.{not}
 use mathlib.Core.Path.{ap}
 use native.Mathlib.Omega.{arith}
-use Prim.Native.Nat.{◌-◌}
 use borrow.Author.Tests.{not-true, not-false}
 use Rattle.given.proofs.Tables.{told_no, told_yes}
 use Rattle.given.proofs.Chains.{check-begins, check-goes, check-ends, row-wrong, parent-wrong, climbs}

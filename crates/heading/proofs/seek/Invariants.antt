@@ -4,7 +4,7 @@ use mathlib.Core.Path.{◌≡◌}
 use mathlib.Core.List.{List}
 use Prim.Native.Nat.{ℕ, ◌+◌, ◌-◌, ◌≤◌}
 use lib.ListN.{drop}
-use Rattle.rules.specs.Listings.{messages, book, seek_message}
+use Rattle.rules.specs.Listings.{book, seek_message}
 use Rattle.heading.proofs.Messages.{types_of}
 use Rattle.heading.proofs.seek.Given as goal
 

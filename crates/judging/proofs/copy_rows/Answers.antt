@@ -1,5 +1,4 @@
 -- `copy_rows` copies number by number. Assumes nothing.
-use Prim.Native.Nat.{◌-◌}
 use native.Mathlib.Omega.{arith}
 use Rattle.judging.proofs.Writing.{copy_start, copy-next, copy-end}
 use Rattle.judging.proofs.copy_rows.Goals as goal

@@ -1,6 +1,5 @@
 -- `marks_at` loads octet by octet. Assumes nothing.
 use mathlib.Core.Path.{refl, ◌∙◌}
-use Prim.Native.Nat.{◌-◌}
 use native.Mathlib.Omega.{arith}
 use Rattle.keeping.proofs.Storing.{none-moved, next-moved, all_moved, filled}
 use Rattle.keeping.proofs.marks_at.Goals as goal

@@ -1,6 +1,5 @@
 -- `put_marks` stores octet by octet. Assumes nothing.
 use mathlib.Core.Path.{refl}
-use Prim.Native.Nat.{◌-◌}
 use native.Mathlib.Omega.{arith}
 use Rattle.keeping.proofs.Storing.{none-moved, next-moved, all_moved}
 use Rattle.keeping.proofs.put_marks.Goals as goal

@@ -1,5 +1,4 @@
 -- `blanked` puts number after number, and the end. Assumes nothing.
-use Prim.Native.Nat.{◌-◌}
 use native.Mathlib.Omega.{arith}
 use Rattle.wording.proofs.Puts.{then-puts, same-room}
 use Rattle.wording.proofs.Turns.{turns-start, turns_next, turns-all}

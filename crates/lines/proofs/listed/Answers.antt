@@ -1,6 +1,5 @@
 -- `listed` puts the counts, and then the rows. Assumes nothing.
 use Rattle.lines.proofs.Reports.{list_puts}
-use borrow.Author.Rules.{rules}
 use Rattle.lines.proofs.listed.Goals as goal
 
 pub returns : goal.returns

@@ -1,6 +1,5 @@
 -- `report` puts the text by the verdict, and the table on acceptance. Assumes nothing.
 use Rattle.lines.proofs.Reports.{reported_refused, lists, reported_accepted}
-use borrow.Author.Rules.{rules}
 use Rattle.lines.proofs.report.Goals as goal
 
 pub returns-then-v-ne0 : goal.returns-then-v-ne0

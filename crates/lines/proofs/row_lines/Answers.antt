@@ -1,5 +1,4 @@
 -- `row_lines` puts line after line. Assumes nothing.
-use Prim.Native.Nat.{◌-◌}
 use native.Mathlib.Omega.{arith}
 use lib.ListN.{length-take, length-drop}
 use Rattle.wording.proofs.Puts.{same-room}

@@ -1,5 +1,4 @@
 -- `seek_plain` meets its contract. The invariant: nothing is found yet and the rows left decide, or the first is found and none is left. Assumes nothing.
-use Prim.Native.Nat.{◌-◌}
 use native.Mathlib.Omega.{arith}
 use Rattle.lookup.proofs.Seeking.{begins, goes_on, ended, less}
 use Rattle.lookup.proofs.seek_plain.Goals as goal

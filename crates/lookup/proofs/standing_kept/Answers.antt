@@ -1,5 +1,4 @@
 -- `standing_kept` meets its contract. The invariant: what is counted, and what the rows left will add, make the whole. Assumes nothing.
-use Prim.Native.Nat.{◌-◌}
 use native.Mathlib.Omega.{arith}
 use Rattle.lookup.proofs.Tables.{count-begins, count-goes, count-ends}
 use Rattle.lookup.proofs.standing_kept.Goals as goal

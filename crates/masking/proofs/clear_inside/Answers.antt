@@ -1,5 +1,4 @@
 -- `clear_inside` goes from element to element, and clears the value of each in its own part of the copy. Assumes nothing.
-use Prim.Native.Nat.{◌-◌}
 use native.Mathlib.Omega.{arith}
 use Rattle.masking.proofs.Insides.{empty-begins, empty-ends, four-left, fits, again}
 use Rattle.masking.proofs.clear_inside.Goals as goal

@@ -1,5 +1,4 @@
 -- `clear_rows` goes by the rows that are cleared so far. Assumes nothing.
-use Prim.Native.Nat.{◌-◌}
 use native.Mathlib.Omega.{arith}
 use Rattle.masking.proofs.Clearing.{none-cleared, one-cleared, all-cleared}
 use Rattle.masking.proofs.clear_rows.Goals as goal

@@ -1,5 +1,4 @@
 -- `put_rows` stores number by number. Assumes nothing.
-use Prim.Native.Nat.{◌-◌}
 use native.Mathlib.Omega.{arith}
 use Rattle.octets.proofs.Tables.{store-start, store-next, store-end}
 use Rattle.octets.proofs.put_rows.Goals as goal

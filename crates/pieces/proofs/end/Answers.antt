@@ -6,7 +6,6 @@ use borrow.Author.Tests.{not-false}
 use Rattle.pieces.proofs.Accepting.{not_so, not-not}
 use Rattle.pieces.proofs.Feeds.{row_low}
 use Rattle.pieces.proofs.Ends.{kind_fits, end-out, end_refused, end-accepted, end-room}
-use borrow.Author.Rules.{elem_fits_field}
 use Rattle.pieces.proofs.end.Goals as goal
 
 pub returns-then-not-ready : goal.returns-then-not-ready

@@ -1,6 +1,5 @@
 -- `feed_all` goes stride by stride: what is left of the part, from what is held now, comes to what the whole part comes to. Assumes nothing.
 use mathlib.Core.Path.{refl, ◌∙◌}
-use Prim.Native.Nat.{◌-◌}
 use native.Mathlib.Omega.{arith}
 use lib.ListN.{length-drop}
 use Rattle.reading.proofs.Endings.{rest-is}

@@ -1,5 +1,4 @@
 -- `crowded` goes from sibling to sibling: what is left to ask says what was asked. Assumes nothing.
-use Prim.Native.Nat.{◌-◌}
 use native.Mathlib.Omega.{arith}
 use borrow.Author.Tests.{le-leb, lt-leb}
 use Rattle.scratch.specs.Guessing.{crowded}

@@ -1,6 +1,5 @@
 -- `feed` goes stride by stride, and the octets that are lent hold the numbers that the same would leave in a table of numbers. Assumes nothing.
 use mathlib.Core.Path.{refl, ◌∙◌}
-use Prim.Native.Nat.{◌-◌}
 use native.Mathlib.Omega.{arith}
 use lib.ListN.{length-drop}
 use Rattle.reading.proofs.Endings.{rest-is}

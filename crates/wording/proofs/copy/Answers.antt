@@ -1,5 +1,4 @@
 -- `copy` puts octet by octet: what is left to put, put where it stands, is the whole text put at the start. Assumes nothing.
-use Prim.Native.Nat.{◌-◌}
 use native.Mathlib.Omega.{arith}
 use Rattle.wording.proofs.Puts.{copy_start, copy-next, copy-end, same-room}
 use Rattle.wording.proofs.copy.Goals as goal

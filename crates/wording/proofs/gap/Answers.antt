@@ -1,5 +1,4 @@
 -- `gap` puts blank after blank. Assumes nothing.
-use Prim.Native.Nat.{◌-◌}
 use native.Mathlib.Omega.{arith}
 use Rattle.wording.specs.Pieces.{gap}
 use Rattle.wording.proofs.Puts.{same-room}

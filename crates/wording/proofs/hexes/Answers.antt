@@ -1,5 +1,4 @@
 -- `hexes` puts octet after octet. Assumes nothing.
-use Prim.Native.Nat.{◌-◌}
 use native.Mathlib.Omega.{arith}
 use Rattle.wording.specs.Pieces.{hexes}
 use Rattle.wording.proofs.Puts.{same-room}

@@ -5,7 +5,6 @@ use native.Mathlib.Omega.{arith}
 use lib.Seq.{length-take-le}
 use Rattle.columns.specs.Values.{octets_text}
 use Rattle.wording.proofs.Puts.{then-puts}
-use borrow.Author.Rules.{rules}
 use Rattle.columns.proofs.values.octets.Goals as goal
 
 pub returns-then-full : goal.returns-then-full

@@ -1,5 +1,4 @@
 -- `find` passes over the texts of other keys. Assumes nothing.
-use Prim.Native.Nat.{◌-◌}
 use native.Mathlib.Omega.{arith}
 use Rattle.phrases.proofs.Search.{seek-start, seek_hit, seek-next, seek-end}
 use Rattle.phrases.proofs.finding.find.Goals as goal

@@ -1,5 +1,4 @@
 -- `fill` puts piece after piece. Assumes nothing.
-use Prim.Native.Nat.{◌-◌}
 use native.Mathlib.Omega.{arith}
 use Rattle.wording.proofs.Puts.{same-room}
 use Rattle.wording.proofs.Turns.{turns-start, turns_next, turns-all}

@@ -2,7 +2,6 @@
 use mathlib.Core.Path.{◌≡◌}
 use native.Mathlib.Omega.{arith}
 use Prim.Native.Nat.{◌≤◌}
-use borrow.Author.Tests.{leb-true}
 use lib.ListN.{length, length-drop}
 use Rattle.reading.proofs.Endings.{rest-is}
 use Rattle.pieces.proofs.Strides.{strode_pass, strode_four, ready-four, four-have, four-sized}

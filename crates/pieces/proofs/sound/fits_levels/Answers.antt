@@ -2,7 +2,6 @@
 use mathlib.Core.Bool.{not}
 use mathlib.Core.Path.{ap}
 use mathlib.Core.Path.{refl, sym}
-use Prim.Native.Nat.{◌-◌}
 use native.Mathlib.Omega.{arith}
 use Rattle.pieces.proofs.Accepting.{not_so, not-not}
 use Rattle.pieces.proofs.Waiting.{slot-left, all_fit, level_unfit, too_far, fits_on}

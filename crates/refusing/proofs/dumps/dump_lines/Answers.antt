@@ -1,5 +1,4 @@
 -- `dump_lines` puts octet after octet. Assumes nothing.
-use Prim.Native.Nat.{◌-◌}
 use native.Mathlib.Omega.{arith}
 use Rattle.wording.proofs.Puts.{same-room}
 use Rattle.wording.proofs.Turns.{turns-start, turns_next, turns-all}

@@ -2,7 +2,6 @@
 use borrow.Author.Tests.{eq-eqb, ne_eqb}
 use Rattle.refusing.specs.Dumps.{lead}
 use Rattle.wording.proofs.Puts.{then-puts}
-use borrow.Author.Rules.{rules}
 use Rattle.refusing.proofs.dumps.lead.Goals as goal
 
 pub returns-then-i-ne0 : goal.returns-then-i-ne0

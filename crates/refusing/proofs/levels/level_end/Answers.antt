@@ -1,5 +1,4 @@
 -- `level_end` goes from row to row. Assumes nothing.
-use Prim.Native.Nat.{◌-◌}
 use native.Mathlib.Omega.{arith}
 use Rattle.refusing.proofs.Ends.{ending-start, ending-next, ending-all}
 use Rattle.refusing.proofs.levels.level_end.Goals as goal

@@ -1,5 +1,4 @@
 -- `frames::crowded` goes from element to element: what is left, from the count so far, is the whole from none. Assumes nothing.
-use Prim.Native.Nat.{◌-◌}
 use native.Mathlib.Omega.{arith}
 use borrow.Author.Tests.{not-true, not-false}
 use Rattle.taking.proofs.Crowds.{crowd-begins, crowd-ends, crowd-breaks, crowd-turns}

@@ -1,5 +1,4 @@
 -- `level::lacking` goes from one mandatory line to the next, and stops at the first that lacks. Assumes nothing.
-use Prim.Native.Nat.{◌-◌}
 use native.Mathlib.Omega.{arith}
 use Rattle.taking.proofs.Lacking.{begun, at_here, at_next, at-end}
 use Rattle.taking.proofs.Lent.{small}

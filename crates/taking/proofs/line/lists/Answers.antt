@@ -1,6 +1,5 @@
 -- `line::lists` goes by its tests. Assumes nothing.
 use mathlib.Core.Path.{◌∙◌}
-use mathlib.Core.Bool.{true, false}
 use borrow.Author.Tests.{eq-eqb, ne_eqb}
 use Rattle.listings.specs.Data.{lists_in}
 use Rattle.taking.proofs.line.lists.Goals as goal
