@@ -10,34 +10,20 @@ use Rattle.given.proofs.right.Goals as goal
 
 pub returns-then-sequence-gt16777215 : goal.returns-then-sequence-gt16777215
 returns-then-sequence-gt16777215 c =
-    let if1 = c.if-sequence-gt16777215 in
-    told_no (λ a. omega (arith, if1.true, a.low))
+    told_no (λ a. omega (arith, c.if-sequence-gt16777215.true, a.low))
 
 pub returns-then-not-header_right : goal.returns-then-not-header_right
 returns-then-not-header_right c =
-    let header-right = c.header_right in
-    let if2 = c.if-not-header_right in
-    told_no (λ a. header-right.ensures.fails (not-true _ (ap not if2.true)) (its-header c.args.sequence (table_in c.args.numbers.now c.args.octets.now) c.args.values.now a))
+    told_no (λ a. c.header_right.ensures.fails (not-true _ (ap not c.if-not-header_right.true)) (its-header c.args.sequence (table_in c.args.numbers.now c.args.octets.now) c.args.values.now a))
 
 pub number-count-requires : goal.number-count-requires
 number-count-requires c =
-    let header-right = c.header_right in
-    let if2 = c.if-not-header_right in
-    omega (arith, (header-right.ensures.holds (not-false _ (ap not if2.false))).long)
+    omega (arith, (c.header_right.ensures.holds (not-false _ (ap not c.if-not-header_right.false))).long)
 
 pub rows_right-requires : goal.rows_right-requires
 rows_right-requires c =
-    let table = c.table-types in
-    let header-right = c.header_right in
-    let if2 = c.if-not-header_right in
-    let number = c.number-count in
-    (table.ensures, record { long = omega (arith, (header-right.ensures.holds (not-false _ (ap not if2.false))).all_there, number.ensures.is); few = omega (arith, number.ensures.low) })
+    (c.table-types.ensures, record { long = omega (arith, (c.header_right.ensures.holds (not-false _ (ap not c.if-not-header_right.false))).all_there, c.number-count.ensures.is); few = omega (arith, c.number-count.ensures.low) })
 
 pub returns : goal.returns
 returns c =
-    let rows_right = c.rows_right in
-    let if1 = c.if-sequence-gt16777215 in
-    let header-right = c.header_right in
-    let if2 = c.if-not-header_right in
-    let number = c.number-count in
-    told-by rows_right.ensures (λ r. by_rows c.args.sequence (table_in c.args.numbers.now c.args.octets.now) c.args.values.now if1.false (header-right.ensures.holds (not-false _ (ap not if2.false))) (rows_as number.ensures.is r)) (λ a. rows_as (sym number.ensures.is) (its-rows c.args.sequence (table_in c.args.numbers.now c.args.octets.now) c.args.values.now a))
+    told-by c.rows_right.ensures (λ r. by_rows c.args.sequence (table_in c.args.numbers.now c.args.octets.now) c.args.values.now c.if-sequence-gt16777215.false (c.header_right.ensures.holds (not-false _ (ap not c.if-not-header_right.false))) (rows_as c.number-count.ensures.is r)) (λ a. rows_as (sym c.number-count.ensures.is) (its-rows c.args.sequence (table_in c.args.numbers.now c.args.octets.now) c.args.values.now a))

@@ -25,9 +25,7 @@ number-requires c =
 
 pub returns-then-number-ne0 : goal.returns-then-number-ne0
 returns-then-number-ne0 c =
-    let if1 = c.if-number-ne0 in
-    let number = c.number in
-    told_no (λ w. if1.true (number.ensures.is ∙ w.stand))
+    told_no (λ w. c.if-number-ne0.true (c.number.ensures.is ∙ w.stand))
 
 pub overflow_add-at-3 : goal.overflow_add-at-3
 overflow_add-at-3 c =
@@ -39,9 +37,7 @@ number-typ-requires c =
 
 pub returns-then-typ-gt255 : goal.returns-then-typ-gt255
 returns-then-typ-gt255 c =
-    let if2 = c.if-typ-gt255 in
-    let number2 = c.number-typ in
-    told_no (λ w. omega (arith, if2.true, number2.ensures.is, w.typ))
+    told_no (λ w. omega (arith, c.if-typ-gt255.true, c.number-typ.ensures.is, w.typ))
 
 pub overflow_add-at-4 : goal.overflow_add-at-4
 overflow_add-at-4 c =
@@ -53,14 +49,11 @@ number-requires-2 c =
 
 pub returns-then-number-gt15 : goal.returns-then-number-gt15
 returns-then-number-gt15 c =
-    let if3 = c.if-number-gt15 in
-    let number3 = c.number-2 in
-    told_no (λ w. omega (arith, if3.true, number3.ensures.is, w.inst))
+    told_no (λ w. omega (arith, c.if-number-gt15.true, c.number-2.ensures.is, w.inst))
 
 pub overflow_cast-typ : goal.overflow_cast-typ
 overflow_cast-typ c =
-    let if2 = c.if-typ-gt255 in
-    omega (arith, if2.false)
+    omega (arith, c.if-typ-gt255.false)
 
 pub is_group-requires : goal.is_group-requires
 is_group-requires c =
@@ -68,15 +61,7 @@ is_group-requires c =
 
 pub returns-then-is_group : goal.returns-then-is_group
 returns-then-is_group c =
-    let number = c.number in
-    let number2 = c.number-typ in
-    let number3 = c.number-2 in
-    let if1 = c.if-number-ne0 in
-    let if2 = c.if-typ-gt255 in
-    let if3 = c.if-number-gt15 in
-    let is-group = c.is_group in
-    let if4 = c.if-is_group in
-    told_yes (row-group (table_in c.args.numbers.now c.args.octets.now) c.args.values.now c.args.n number.ensures.is number2.ensures.is number3.ensures.is if1.false if2.false if3.false (sym is-group.ensures ∙ if4.true))
+    told_yes (row-group (table_in c.args.numbers.now c.args.octets.now) c.args.values.now c.args.n c.number.ensures.is c.number-typ.ensures.is c.number-2.ensures.is c.if-number-ne0.false c.if-typ-gt255.false c.if-number-gt15.false (sym c.is_group.ensures ∙ c.if-is_group.true))
 
 pub overflow_add-at-5 : goal.overflow_add-at-5
 overflow_add-at-5 c =
@@ -96,20 +81,8 @@ number-requires-4 c =
 
 pub overflow_add-end : goal.overflow_add-end
 overflow_add-end c =
-    let number4 = c.number-3 in
-    let number5 = c.number-4 in
-    omega (arith, number4.ensures.low, number5.ensures.low)
+    omega (arith, c.number-3.ensures.low, c.number-4.ensures.low)
 
 pub returns : goal.returns
 returns c =
-    let number4 = c.number-3 in
-    let number5 = c.number-4 in
-    let number = c.number in
-    let number2 = c.number-typ in
-    let number3 = c.number-2 in
-    let if1 = c.if-number-ne0 in
-    let if2 = c.if-typ-gt255 in
-    let if3 = c.if-number-gt15 in
-    let is-group = c.is_group in
-    let if4 = c.if-is_group in
-    told-by (told_le (number4.result + number5.result) (length c.args.values.now)) (row-value (table_in c.args.numbers.now c.args.octets.now) c.args.values.now c.args.n number.ensures.is number2.ensures.is number3.ensures.is number4.ensures.is number5.ensures.is if1.false if2.false if3.false) (λ w. its-end (table_in c.args.numbers.now c.args.octets.now) c.args.values.now c.args.n number2.ensures.is number4.ensures.is number5.ensures.is (sym is-group.ensures ∙ if4.false) w)
+    told-by (told_le (c.number-3.result + c.number-4.result) (length c.args.values.now)) (row-value (table_in c.args.numbers.now c.args.octets.now) c.args.values.now c.args.n c.number.ensures.is c.number-typ.ensures.is c.number-2.ensures.is c.number-3.ensures.is c.number-4.ensures.is c.if-number-ne0.false c.if-typ-gt255.false c.if-number-gt15.false) (λ w. its-end (table_in c.args.numbers.now c.args.octets.now) c.args.values.now c.args.n c.number-typ.ensures.is c.number-3.ensures.is c.number-4.ensures.is (sym c.is_group.ensures ∙ c.if-is_group.false) w)

@@ -14,22 +14,9 @@ returns-then-table-used c = simp (le-ltb _ _ c.if-table-lt-HEADER.false, ← c.w
 pub returns-then-wide-ne-HEADER : goal.returns-then-wide-ne-HEADER
 unfolding headed
 returns-then-wide-ne-HEADER c =
-    simp (
-      le-ltb _ _ c.if-table-lt-HEADER.false,
-      ← c.wide-used.ensures.is,
-      le-ltb _ _ c.if-table-used.false,
-      ← c.wide.ensures.is,
-      ne_eqb _ _ c.if-wide-ne-HEADER.true,
-    )
+    simp (le-ltb _ _ c.if-table-lt-HEADER.false, ← c.wide-used.ensures.is, le-ltb _ _ c.if-table-used.false, ← c.wide.ensures.is, ne_eqb _ _ c.if-wide-ne-HEADER.true)
 
 pub returns : goal.returns
 unfolding headed
 returns c =
-    simp (
-      le-ltb _ _ c.if-table-lt-HEADER.false,
-      ← c.wide-used.ensures.is,
-      le-ltb _ _ c.if-table-used.false,
-      ← c.wide.ensures.is,
-      eq-eqb _ _ c.if-wide-ne-HEADER.false,
-      ← c.wide-2.ensures.is,
-    )
+    simp (le-ltb _ _ c.if-table-lt-HEADER.false, ← c.wide-used.ensures.is, le-ltb _ _ c.if-table-used.false, ← c.wide.ensures.is, eq-eqb _ _ c.if-wide-ne-HEADER.false, ← c.wide-2.ensures.is)

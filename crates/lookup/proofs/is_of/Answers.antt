@@ -10,11 +10,7 @@ use Rattle.lookup.proofs.is_of.Goals as goal
 pub returns-then-not-is_headed : goal.returns-then-not-is_headed
 returns-then-not-is_headed c =
     let a = c.args in
-    rw (
-      of-by a.kind a.message.now a.table.now,
-      ← c.is_headed.ensures,
-      not-true c.is_headed.result (ap not c.if-not-is_headed.true),
-    )
+    rw (of-by a.kind a.message.now a.table.now, ← c.is_headed.ensures, not-true c.is_headed.result (ap not c.if-not-is_headed.true))
 
 pub bounds-table-5 : goal.bounds-table-5
 bounds-table-5 c =
@@ -24,25 +20,12 @@ bounds-table-5 c =
 pub returns-then-wide-kind : goal.returns-then-wide-kind
 returns-then-wide-kind c =
     let a = c.args in
-    rw (
-      of-by a.kind a.message.now a.table.now,
-      ← c.is_headed.ensures,
-      not-false c.is_headed.result (ap not c.if-not-is_headed.false),
-      ← c.wide.ensures.is,
-      ne_eqb _ _ c.if-wide-kind.true,
-    )
+    rw (of-by a.kind a.message.now a.table.now, ← c.is_headed.ensures, not-false c.is_headed.result (ap not c.if-not-is_headed.false), ← c.wide.ensures.is, ne_eqb _ _ c.if-wide-kind.true)
 
 pub returns-then-message-le1 : goal.returns-then-message-le1
 returns-then-message-le1 c =
     let a = c.args in
-    rw (
-      of-by a.kind a.message.now a.table.now,
-      ← c.is_headed.ensures,
-      not-false c.is_headed.result (ap not c.if-not-is_headed.false),
-      ← c.wide.ensures.is,
-      eq-eqb _ _ c.if-wide-kind.false,
-      le-ltb _ _ c.if-message-le1.true,
-    )
+    rw (of-by a.kind a.message.now a.table.now, ← c.is_headed.ensures, not-false c.is_headed.result (ap not c.if-not-is_headed.false), ← c.wide.ensures.is, eq-eqb _ _ c.if-wide-kind.false, le-ltb _ _ c.if-message-le1.true)
 
 pub bounds-table-4 : goal.bounds-table-4
 bounds-table-4 c =
@@ -52,17 +35,7 @@ bounds-table-4 c =
 pub returns-then-wide-octet : goal.returns-then-wide-octet
 returns-then-wide-octet c =
     let a = c.args in
-    rw (
-      of-by a.kind a.message.now a.table.now,
-      ← c.is_headed.ensures,
-      not-false c.is_headed.result (ap not c.if-not-is_headed.false),
-      ← c.wide.ensures.is,
-      eq-eqb _ _ c.if-wide-kind.false,
-      lt-ltb _ _ c.if-message-le1.false,
-      ← c.wide-2.ensures.is,
-      ← c.octet.ensures,
-      ne_eqb _ _ c.if-wide-octet.true,
-    )
+    rw (of-by a.kind a.message.now a.table.now, ← c.is_headed.ensures, not-false c.is_headed.result (ap not c.if-not-is_headed.false), ← c.wide.ensures.is, eq-eqb _ _ c.if-wide-kind.false, lt-ltb _ _ c.if-message-le1.false, ← c.wide-2.ensures.is, ← c.octet.ensures, ne_eqb _ _ c.if-wide-octet.true)
 
 pub bounds-table-1 : goal.bounds-table-1
 bounds-table-1 c =
@@ -82,17 +55,4 @@ standing_kept-requires c =
 pub returns : goal.returns
 returns c =
     let a = c.args in
-    rw (
-      of-by a.kind a.message.now a.table.now,
-      ← c.is_headed.ensures,
-      not-false c.is_headed.result (ap not c.if-not-is_headed.false),
-      ← c.wide.ensures.is,
-      eq-eqb _ _ c.if-wide-kind.false,
-      lt-ltb _ _ c.if-message-le1.false,
-      ← c.wide-2.ensures.is,
-      ← c.octet.ensures,
-      eq-eqb _ _ c.if-wide-octet.false,
-      ← c.wide-3.ensures.is,
-      ← c.wide-4.ensures.is,
-      ← c.standing_kept.ensures,
-    )
+    rw (of-by a.kind a.message.now a.table.now, ← c.is_headed.ensures, not-false c.is_headed.result (ap not c.if-not-is_headed.false), ← c.wide.ensures.is, eq-eqb _ _ c.if-wide-kind.false, lt-ltb _ _ c.if-message-le1.false, ← c.wide-2.ensures.is, ← c.octet.ensures, eq-eqb _ _ c.if-wide-octet.false, ← c.wide-3.ensures.is, ← c.wide-4.ensures.is, ← c.standing_kept.ensures)

@@ -29,11 +29,7 @@ put_sequence-requires c =
 
 pub returns-then-at-eq12 : goal.returns-then-at-eq12
 returns-then-at-eq12 c =
-    let if1 = c.if-at-eq12 in
-    let put_four = c.put_four in
-    let put-teid = c.put_teid in
-    let put-sequence = c.put_sequence in
-    start_with c.args.at c.args.typ c.args.teid c.args.sequence c.args.n c.args.out.now c.requires.room if1.true put_four.ensures put-teid.ensures put-sequence.ensures
+    start_with c.args.at c.args.typ c.args.teid c.args.sequence c.args.n c.args.out.now c.requires.room c.if-at-eq12.true c.put_four.ensures c.put_teid.ensures c.put_sequence.ensures
 
 pub overflow_cast-typ-2 : goal.overflow_cast-typ-2
 overflow_cast-typ-2 c =
@@ -53,7 +49,4 @@ put_sequence-requires-2 c =
 
 pub returns : goal.returns
 returns c =
-    let if1 = c.if-at-eq12 in
-    let put-four2 = c.put_four-2 in
-    let put-sequence2 = c.put_sequence-2 in
-    start-without c.args.at c.args.typ c.args.teid c.args.sequence c.args.n c.args.out.now c.requires.room (not-twelve c.requires.at_is if1.false) put-four2.ensures put-sequence2.ensures
+    start-without c.args.at c.args.typ c.args.teid c.args.sequence c.args.n c.args.out.now c.requires.room (not-twelve c.requires.at_is c.if-at-eq12.false) c.put_four-2.ensures c.put_sequence-2.ensures

@@ -11,16 +11,8 @@ nested a e f = rw (← f) e
 
 pub returns-then-v-ne0 : goal.returns-then-v-ne0
 returns-then-v-ne0 c =
-    let read = c.read-r in
-    let first-of2 = c.first_of-v in
-    let first_of = c.first_of in
-    let if1 = c.if-v-ne0 in
-    not-whole c.args.kind c.args.message.now read.result read.ensures.answers first-of2.result (nested read.result.refusal first-of2.ensures first_of.ensures) if1.true
+    not-whole c.args.kind c.args.message.now c.read-r.result c.read-r.ensures.answers c.first_of-v.result (nested c.read-r.result.refusal c.first_of-v.ensures c.first_of.ensures) c.if-v-ne0.true
 
 pub returns : goal.returns
 returns c =
-    let read = c.read-r in
-    let first-of2 = c.first_of-v in
-    let first_of = c.first_of in
-    let if1 = c.if-v-ne0 in
-    whole-counts c.args.kind c.args.message.now read.result read.ensures.answers first-of2.result (nested read.result.refusal first-of2.ensures first_of.ensures) if1.false
+    whole-counts c.args.kind c.args.message.now c.read-r.result c.read-r.ensures.answers c.first_of-v.result (nested c.read-r.result.refusal c.first_of-v.ensures c.first_of.ensures) c.if-v-ne0.false
