@@ -1,7 +1,7 @@
 // The judge program: a kind octet and a message on standard input; the verdict and the rows on standard output.
 #![tactic(auto)]
 
-use std::io::{self, Read};
+use std::io;
 
 // The text on an input, by way of `out`.
 fn answer(rt: &impl Print, input: &[u8], out: &mut [u8]) -> io::Result<()> {
@@ -10,8 +10,8 @@ fn answer(rt: &impl Print, input: &[u8], out: &mut [u8]) -> io::Result<()> {
 }
 
 fn main(rt: HostRuntime) -> io::Result<()> {
-    let mut input = Vec::new(rt.alloc());
-    rt.reader().take(4098).read_to_end(&mut input)?;
-    let mut out = vec![in rt.alloc(); 0u8; 65536]?;
-    answer(&rt, &input, &mut out)
+    let mut input = [0u8; 4098];
+    let n = output::fill(&mut rt.reader(), &mut input)?;
+    let mut out = output::buffer();
+    answer(&rt, &input[..n], &mut out)
 }

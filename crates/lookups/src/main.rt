@@ -4,7 +4,7 @@
 
 ghost use Rattle.std.specs.Prelude.{◌≡◌, length};
 
-use std::io::{self, Read};
+use std::io;
 use text::{after, field, find, long, number, numbers, octets, print_octets, short};
 
 mod text;
@@ -14,13 +14,6 @@ fn table_buffer() -> [u16; 8192]
     ensures { 8192 ≡ length result }
 {
     [0; 8192]
-}
-
-// Room for more octets than a message has, likewise.
-fn octet_buffer() -> [u8; 65536]
-    ensures { 65536 ≡ length result }
-{
-    [0; 65536]
 }
 
 fn print_found(rt: &impl Print, found: bool) -> io::Result<()> {
@@ -54,7 +47,7 @@ fn answer_plain(rt: &impl Print, line: &[u8]) -> io::Result<()> {
     let kind = long(number(field(line, 1)));
     let typ = short(number(field(line, 2)));
     let inst = short(number(field(line, 3)));
-    let mut message = octet_buffer();
+    let mut message = output::buffer();
     let m = octets(field(line, 4), &mut message);
     let mut table = table_buffer();
     let t = numbers(field(line, 5), &mut table);
@@ -80,9 +73,9 @@ fn answer_desk(rt: &impl Print, line: &[u8]) -> io::Result<()> {
     let kind = long(number(field(line, 1)));
     let row = number(field(line, 2));
     let right = number(field(line, 3)) == 1;
-    let mut message = octet_buffer();
+    let mut message = output::buffer();
     let m = octets(field(line, 4), &mut message);
-    let mut copy = octet_buffer();
+    let mut copy = output::buffer();
     let c = octets(field(line, 5), &mut copy);
     let mut table = table_buffer();
     let t = numbers(field(line, 6), &mut table);
@@ -110,7 +103,7 @@ fn answer_all(rt: &impl Print, text: &[u8]) -> io::Result<()> {
 }
 
 fn main(rt: HostRuntime) -> io::Result<()> {
-    let mut text = Vec::new(rt.alloc());
-    rt.reader().take(65536).read_to_end(&mut text)?;
-    answer_all(&rt, &text)
+    let mut text = output::buffer();
+    let n = output::fill(&mut rt.reader(), &mut text)?;
+    answer_all(&rt, &text[..n])
 }
