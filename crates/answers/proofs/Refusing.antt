@@ -1,13 +1,43 @@
 -- A verdict refuses exactly where its code is not 0, as the code tests it. Assumes nothing.
-use mathlib.Core.Path.{◌≡◌}
+use mathlib.Core.Path.{◌≡◌, refl}
 use mathlib.Core.Bool.{true, false}
+use mathlib.Core.List.{[], ◌∷◌}
 use native.Mathlib.Nat.{pos_of_ne-zero}
 use borrow.Author.Tests.{lt-ltb}
-use Rattle.rules.specs.Verdicts.{refuses}
+use Rattle.rules.specs.Verdicts.{refuses, first}
 use Rattle.rules.specs.declared.Verdict.{Verdict}
+use Rattle.answers.specs.declared.Refusal.{Refusal}
+use Rattle.answers.specs.declared.Refusal.TheVariants.{Kind, Size, Version, Header, Piggybacked, Length, MessageType, OtherKind, Teid, Cut, Table, Short, Missing, Copy, Given, Room, Misread, State}
+use Rattle.answers.specs.Refusals.{verdict_of}
 
 pub refusing : (v : Verdict) → (v.code ≡ 0 → ⊥) → refuses v ≡ true
 refusing v n = lt-ltb 0 v.code (pos_of_ne-zero n)
 
 pub accepting : (v : Verdict) → v.code ≡ 0 → refuses v ≡ false
 accepting v e = rw e
+
+-- a refusal by its name refuses
+pub named_refuses : (r : Refusal) → refuses (verdict_of r) ≡ true
+named_refuses Kind = refl
+named_refuses Size = refl
+named_refuses Version = refl
+named_refuses Header = refl
+named_refuses Piggybacked = refl
+named_refuses Length = refl
+named_refuses MessageType = refl
+named_refuses OtherKind = refl
+named_refuses Teid = refl
+named_refuses (Cut place) = refl
+named_refuses Table = refl
+named_refuses (Short place typ inst) = refl
+named_refuses (Missing place typ inst) = refl
+named_refuses Copy = refl
+named_refuses Given = refl
+named_refuses Room = refl
+named_refuses Misread = refl
+named_refuses State = refl
+
+-- what is handed on of a verdict that refuses, refuses
+pub handed_on : {v : Verdict} (r : Verdict) → v ≡ first (r ∷ []) → true ≡ refuses r → true ≡ refuses v
+unfolding first
+handed_on r e n = let same : first (r ∷ []) ≡ r = rw (← n) refl in rw (e, same) n

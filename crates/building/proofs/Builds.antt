@@ -1,105 +1,38 @@
 -- What is answered: by the checks before the message is made, and then by the message of the table's rows, which is the message that the rules build. Assumes nothing.
---     early-kind, early_type, early-other, early-table, early-none    the first checks
 --     Holds       a run of numbers that holds the table's rows         makes   it can be written
---     refused-early, refused-large, builds                             the answer
+--     refused-early, builds                              the answer
 use mathlib.Core.Path.{◌≡◌, refl, sym, ap, ◌∙◌}
-use mathlib.Core.Logic.{◌⊎◌, inl, inr}
-use mathlib.Core.Bool.{Bool, true, false, cond, not}
-use mathlib.Core.List.{List, [], ◌∷◌}
+use mathlib.Core.Bool.{Bool, true, false, cond}
+use mathlib.Core.List.{List}
+use Rattle.std.specs.Prelude.{Option, Some, None, is_some, Err}
 use Prim.Native.Nat.{ℕ, zero, suc, ◌+◌, ◌-◌, ◌*◌, ◌≤◌, ◌<◌}
 use native.Mathlib.Omega.{arith}
-use native.Mathlib.Nat.{pos_of_ne-zero}
 use borrow.Author.Tests.{lt-ltb, le-ltb}
-use lib.Dec.{eqb, ltb}
-use lib.ListN.{length, get_or, take, drop, length-append, length-drop}
-use lib.Seq.{length-take-le, get_or-drop, take_all}
-use Rattle.rules.specs.Sizes.{largest_message, header_numbers, row_numbers, used, most_rows}
-use Rattle.rules.specs.Types.{among, is_group}
-use Rattle.rules.specs.Listings.{book, message_of, is_message}
-use Rattle.rules.specs.Standing.{kept}
-use Rattle.rules.specs.Values.{row_count, table_type, table_kind, cell, row_standing, row_type, row_place, row_length}
-use Rattle.rules.specs.Verdicts.{accepted, refused, check, refuses, first}
-use Rattle.rules.specs.Emitting.{sizes, size_of, emitted}
-use Rattle.rules.specs.Built.{rest_of, given, givens, given_rows, reasons, any_of, has_teid, rest_given, built_length, built, build_checks, late_verdict, headed_checks, build_length, build_room}
-use Rattle.rules.specs.Octets.{numbers_in}
+use lib.ListN.{length, get_or, drop, length-append, length-drop}
+use lib.Seq.{length-take-le, get_or-drop}
+use Rattle.rules.specs.Sizes.{header_numbers, row_numbers, used}
+use Rattle.rules.specs.Types.{is_group}
+use Rattle.rules.specs.Listings.{book, message_of}
+use Rattle.rules.specs.Values.{row_count, table_type, table_kind, cell, row_type, row_place, row_length}
+use Rattle.rules.specs.Verdicts.{refused, check, refuses, first}
+use Rattle.rules.specs.Emitting.{sizes, emitted}
+use Rattle.rules.specs.Built.{rest_of, given, givens, given_rows, rest_given, built_length, built, build_checks, late_verdict, headed_checks, build_length, build_room}
 use Rattle.rules.specs.Answers.{Builds}
 use Rattle.rules.specs.declared.Verdict.{Verdict}
 use Rattle.rules.specs.declared.Sent.{Sent}
 use Rattle.rules.proofs.Checks.{first_append}
-use Rattle.rules.proofs.Reasons.{RowRight, NoReason, no_reason, none-holds, some_holds}
-use Rattle.heading.specs.Header.{HeaderOf}
-use Rattle.heading.proofs.Messages.{listed-octet}
+use Rattle.rules.proofs.Reasons.{RowRight, none-holds}
+use Rattle.answers.specs.declared.Refusal.{Refusal}
+use Rattle.answers.specs.Refusals.{verdict_of, sent_of}
+use Rattle.answers.proofs.Refusing.{named_refuses}
 use Rattle.emitted.proofs.BuiltRows.{givens-length}
 use Rattle.emitting.specs.Emits.{number, sizes_in, parts_in}
 use Rattle.emitting.proofs.Bridge.{Agrees, Agreeing, emitted-size, sizes_are, parts_are, parts-size}
-use Rattle.given.specs.Given.{table_in, Copied}
-use Rattle.given.proofs.Tables.{numbers-alone, octets-alone}
-use Rattle.building.specs.Making.{early_checks, Makes, Made, size, message, late_checks, BuildsBy}
+use Rattle.building.specs.declared.header.Header.{Header}
+use Rattle.building.specs.Start.{header_size, teid_in}
+use Rattle.building.specs.Making.{early_checks, Opens, Heads, Makes, Made, size, message, late_checks, BuildsBy}
 
 -- ---- the first checks
-
-module _ (kind typ sequence : ℕ) (t values : List ℕ) where
-  abbrev early : Verdict
-  early = first (early_checks kind typ sequence t values)
-
-  pub early-kind : among kind book.kinds ≡ false → refused 1 0 ≡ early
-  unfolding first check
-  early-kind e = rw e
-
-  -- the header's length is 0 exactly for a type that is not listed
-  pub not_listed : {at : ℕ} → HeaderOf typ at → at ≡ 0 → is_message book typ ≡ false
-  not_listed h z = go (is_message book typ) (message_of book typ).teid (sym h.is ∙ z)
-    where
-      go : (c d : Bool) → ◌≡◌ {A = ℕ} (cond c (cond d 12 8) 0) 0 → c ≡ false
-      go true true e = absurd (omega arith)
-      go true false e = absurd (omega arith)
-      go false d e = refl
-
-  pub listed : {at : ℕ} → HeaderOf typ at → (at ≡ 0 → ⊥) → is_message book typ ≡ true
-  listed {at} h z = go (is_message book typ) refl
-    where
-      go : (c : Bool) → is_message book typ ≡ c → is_message book typ ≡ true
-      go true e = e
-      go false e = absurd (z (h.is ∙ rw e))
-
-  pub early_type : among kind book.kinds ≡ true → is_message book typ ≡ false → refused 7 0 ≡ early
-  unfolding first check
-  early_type e f = rw (e, f)
-
-  pub early-other : among kind book.kinds ≡ true → is_message book typ ≡ true → among kind (message_of book typ).kinds ≡ false → refused 21 0 ≡ early
-  unfolding first check
-  early-other e f h = rw (e, f, h)
-
-  pub early-table : among kind book.kinds ≡ true → is_message book typ ≡ true → among kind (message_of book typ).kinds ≡ true → (NoReason sequence t values → ⊥) → refused 14 0 ≡ early
-  unfolding first check
-  early-table e f h g = rw (e, f, h, some_holds sequence t values g)
-
-  pub early-none : among kind book.kinds ≡ true → is_message book typ ≡ true → among kind (message_of book typ).kinds ≡ true → NoReason sequence t values → accepted ≡ early
-  unfolding first check
-  early-none e f h g = rw (e, f, h, none-holds sequence t values g)
-
-  -- and what it is where none of them applies
-  pub record Opens : Type 0 where
-    pub kind_known : among kind book.kinds ≡ true
-    pub type_listed : is_message book typ ≡ true
-    pub on_kind : among kind (message_of book typ).kinds ≡ true
-    pub right : NoReason sequence t values
-
-  pub opens : early.code ≡ 0 → Opens
-  unfolding first check
-  opens z = go (among kind book.kinds) (is_message book typ) (among kind (message_of book typ).kinds) (any_of (reasons sequence t values)) refl refl refl refl z
-    where
-      go : (a c o d : Bool) → among kind book.kinds ≡ a → is_message book typ ≡ c → among kind (message_of book typ).kinds ≡ o → any_of (reasons sequence t values) ≡ d
-          → (cond (refuses (cond (not a) (refused 1 0) accepted)) (cond (not a) (refused 1 0) accepted)
-          (cond (refuses (cond (not c) (refused 7 0) accepted)) (cond (not c) (refused 7 0) accepted)
-          (cond (refuses (cond (not o) (refused 21 0) accepted)) (cond (not o) (refused 21 0) accepted)
-          (cond (refuses (cond d (refused 14 0) accepted)) (cond d (refused 14 0) accepted) accepted)))).code ≡ 0
-          → Opens
-      go false c o d w e h f y = absurd (omega arith)
-      go true false o d w e h f y = absurd (omega arith)
-      go true true false d w e h f y = absurd (omega arith)
-      go true true true true w e h f y = absurd (omega arith)
-      go true true true false w e h f y = record { kind_known = w; type_listed = e; on_kind = h; right = no_reason sequence t values f }
 
 module _ (kind typ teid sequence : ℕ) (t values room : List ℕ) where
   -- the checks are those, and two more
@@ -108,106 +41,24 @@ module _ (kind typ teid sequence : ℕ) (t values room : List ℕ) where
   unfolding build_checks
   by-early e = first_append (early_checks kind typ sequence t values) _ ∙ rw e
 
-  pub refused-early : (v : Verdict) → v ≡ first (early_checks kind typ sequence t values) → (v.code ≡ 0 → ⊥) → (s : Sent) → s ≡ record { verdict = v; length = 0 }
-      → BuildsBy kind typ teid sequence t values room s room
-  refused-early v e z s w =
-      let r : refuses (first (early_checks kind typ sequence t values)) ≡ true = rw (← e) (lt-ltb 0 v.code (pos_of_ne-zero z)) in
+  pub refused-early : (e : Refusal) → verdict_of e ≡ first (early_checks kind typ sequence t values) → (v : Verdict) → v ≡ verdict_of e → BuildsBy kind typ teid sequence t values room (sent_of (Err v)) room
+  refused-early e f v w =
+      let r : refuses (first (early_checks kind typ sequence t values)) ≡ true = rw (← f) (named_refuses e) in
       let b = by-early r in
-      record { verdict_is = rw w (e ∙ sym b); length_is = rw (w, b, r); room_left = rw (b, r) }
-
-  -- more than 1,022 rows are more than 4,096 octets, however short each is
-  many-rows : (k n : ℕ) → ((j : ℕ) → n ≤ j → j < n + k → row_standing t j ≡ kept) → 4 * k ≤ sizes (givens t values n k)
-  unfolding sizes givens given size_of
-  many-rows zero n f = omega arith
-  many-rows (suc k) n f =
-      rw (f n (omega arith) (omega arith)) (omega (arith, many-rows k (suc n) (λ j l c. f j (omega arith) (omega arith))))
-
-  large-by : (c : Bool) → 8 ≤ 4 + length (rest_of c teid sequence)
-  large-by true = omega arith
-  large-by false = omega arith
-
-  fifteen : Opens kind typ sequence t values → most_rows < row_count t → late_verdict book kind typ teid sequence t values (length room) ≡ refused 15 0
-  unfolding build_checks first check
-  fifteen o l =
-      let a = many-rows (row_count t) 0 (λ j z c. (o.right.each j (omega arith)).stand) in
-      let b : ltb largest_message (built_length book kind typ teid sequence t values) ≡ true =
-      lt-ltb largest_message (built_length book kind typ teid sequence t values) (omega (arith, a, large-by (has_teid book kind typ teid sequence t values))) in
-      rw (o.kind_known, o.type_listed, o.on_kind, none-holds sequence t values o.right, b)
-
-  pub refused-large : Opens kind typ sequence t values → (x : ℕ) → x ≡ row_count t → most_rows < x → (s : Sent) → s ≡ record { verdict = refused 15 0; length = 0 }
-      → BuildsBy kind typ teid sequence t values room s room
-  refused-large o x e l s w =
-      let v = fifteen o (omega (arith, e)) in
-      record { verdict_is = rw w (sym v); length_is = rw (w, v); room_left = rw v }
-
--- a table of numbers alone, and one of octets alone
-pub early-numbers : (kind typ sequence : ℕ) (t values : List ℕ) (v : Verdict) → v ≡ first (early_checks kind typ sequence (table_in t []) values) → v ≡ first (early_checks kind typ sequence t values)
-early-numbers kind typ sequence t values v e = rw (numbers-alone t) at e
-
-pub early-octets : (kind typ sequence : ℕ) (t values : List ℕ) (v : Verdict) → v ≡ first (early_checks kind typ sequence (table_in [] t) values)
-    → v ≡ first (early_checks kind typ sequence (numbers_in t) values)
-early-octets kind typ sequence t values v e = rw (octets-alone t) at e
-
-pub octets-there : (table : List ℕ) (j : ℕ) → j < length (numbers_in table) → j < length (table_in [] table)
-octets-there table j l = rw (octets-alone table) l
-
-pub octets-room : (table : List ℕ) (n : ℕ) → n ≤ length (numbers_in table) → n ≤ length (table_in [] table)
-octets-room table n l = rw (octets-alone table) l
-
-pub first-octets : (table : List ℕ) {x : ℕ} → x ≡ get_or (table_in [] table) 0 0 → x ≡ row_count (numbers_in table)
-first-octets table e = rw (octets-alone table) at e
-
-pub copied-octets : (table : List ℕ) (n : ℕ) {rows rows' : List ℕ} → Copied n (table_in [] table) rows rows' → Copied n (numbers_in table) rows rows'
-copied-octets table n c = rw (octets-alone table) at c
-
-pub opens_by : (kind typ sequence : ℕ) (t values : List ℕ) (v : Verdict) → v ≡ first (early_checks kind typ sequence t values) → v.code ≡ 0 → Opens kind typ sequence t values
-opens_by kind typ sequence t values v e z = opens kind typ sequence t values (sym (ap (λ (x : Verdict). x.code) e) ∙ z)
+      record { verdict_is = w ∙ f ∙ sym b; length_is = rw (b, r); room_left = rw (b, r) }
 
 -- ---- the rows
 
--- a run of numbers holds the rows of a table, of which each number has 16 bits
+-- a run of numbers holds the rows of a table, which stand behind its header
 pub record Holds (t rows : List ℕ) (count : ℕ) : Type 0 where
   pub count_is : count ≡ row_count t
-  pub long : row_numbers * count ≤ length rows
-  pub few : count ≤ 65535
-  pub each : (j : ℕ) → j < row_numbers * count → get_or rows j 0 ≡ get_or t (header_numbers + j) 0
-  pub low : (j : ℕ) → get_or t j 0 < 65536
+  pub rows_is : rows ≡ drop 6 t
 
--- the rows of a table of numbers stand after its header
-pub numbers-held : (sequence : ℕ) (t values : List ℕ) → NoReason sequence t values → (count : ℕ) → count ≡ row_count t → ((j : ℕ) → get_or t j 0 < 65536)
-    → Holds t (take (length t - 6) (drop 6 t)) count
-numbers-held sequence t values r count e low =
-    let all : take (length t - 6) (drop 6 t) ≡ drop 6 t = take_all (length t - 6) (drop 6 t) (omega (arith, length-drop 6 t)) in
-    rw all (record {
-      count_is = e;
-      long = omega (arith, r.all_there, length-drop 6 t);
-      few = omega (arith, low 0);
-      each = λ j l. get_or-drop 6 t j 0;
-      low = low;
-    })
-
--- and those of one of octets where they were read to
-pub octets-held : (t rows rows' : List ℕ) (count : ℕ) → count ≡ row_count t → Copied (6 * count) t rows rows' → 6 * count ≤ length rows → ((j : ℕ) → get_or t j 0 < 65536) → Holds t rows' count
-octets-held t rows rows' count e c l low = record {
-  count_is = e;
-  long = omega (arith, c.size);
-  few = omega (arith, low 0);
-  each = c.each;
-  low = low;
-}
-
-pub numbers-low : (table : List ℕ) → ((j : ℕ) → get_or table j 0 < 256) → (j : ℕ) → get_or (numbers_in table) j 0 < 65536
-unfolding numbers_in
-numbers-low [] f j = omega arith
-numbers-low (x ∷ []) f j = omega arith
-numbers-low (x ∷ y ∷ xs) f zero = omega (arith, f 0, f 1)
-numbers-low (x ∷ y ∷ xs) f (suc j) = numbers-low xs (λ i. f (suc (suc i))) j
-
-module _ (kind typ teid sequence : ℕ) (t values room rows : List ℕ) (count at : ℕ) (h : HeaderOf typ at) (o : Opens kind typ sequence t values) (held : Holds t rows count) where
+module _ (kind typ teid sequence : ℕ) (t values room rows : List ℕ) (count : ℕ) (o : Opens kind typ sequence t values) (held : Holds t rows count) where
   cell-is : (n c : ℕ) → n < count → c < 6 → number rows n c ≡ cell t n c
   cell-is n c l k =
       let e : header_numbers + (row_numbers * n + c) ≡ used n + c = omega arith in
-      held.each (row_numbers * n + c) (omega arith) ∙ ap (λ (i : ℕ). get_or t i 0) e
+      rw held.rows_is (get_or-drop 6 t (row_numbers * n + c) 0 ∙ ap (λ (i : ℕ). get_or t i 0) e)
 
   row-right : (n : ℕ) → n < count → RowRight t values n
   row-right n l = o.right.each n (omega (arith, held.count_is))
@@ -247,74 +98,69 @@ module _ (kind typ teid sequence : ℕ) (t values room rows : List ℕ) (count a
   parts_is : parts_in rows count values false 0 count ≡ emitted 0 (given_rows t values)
   parts_is = rw pieces-count at (parts_are rows values false (given_rows t values) agreeing)
 
-  with_teid : at ≡ cond (message_of book typ).teid 12 8
-  with_teid = h.is ∙ rw o.type_listed
-
-  eight_or_twelve : (at ≡ 8) ⊎ (at ≡ 12)
-  eight_or_twelve = go (message_of book typ).teid with_teid
-    where
-      go : (c : Bool) → at ≡ cond c 12 8 → (at ≡ 8) ⊎ (at ≡ 12)
-      go true e = inr e
-      go false e = inl e
-
-  pub makes : Makes typ sequence at rows count values
+  pub makes : Makes rows count values
   makes = record {
-    at_is = eight_or_twelve;
-    typ_octet = listed-octet typ o.type_listed;
-    low = o.right.low;
-    has = record { long = held.long; few = held.few };
     types = λ n l. omega (arith, cell-is n 1 l (omega arith), (row-right n l).typ);
-    lengths = λ n l. omega (arith, cell-is n 4 l (omega arith), held.low (used n + 4));
     there = λ n l g. omega (arith, cell-is n 3 l (omega arith), cell-is n 4 l (omega arith), (row-right n l).there (rw (cell-is n 1 l (omega arith)) at g));
     octets = rw pieces-count at (parts-size rows values false (given_rows t values) agreeing);
   }
 
   -- ---- the message
 
-  abbrev n : ℕ
-  n = size kind typ teid sequence at rows count values room
+  -- the TEID, if its type wants one
+  abbrev lent : Option ℕ
+  lent = cond (message_of book typ).teid (Some teid) None
 
-  size-by : (c : Bool) → at ≡ cond c 12 8 → at ≡ 4 + length (rest_of c teid sequence)
-  size-by true e = e
-  size-by false e = e
+  abbrev n : ℕ
+  n = size kind typ lent sequence rows count values room
+
+  size-by : (c : Bool) → header_size (cond c (Some teid) None) ≡ 4 + length (rest_of c teid sequence)
+  size-by true = refl
+  size-by false = refl
 
   size_is : n ≡ built_length book kind typ teid sequence t values
-  size_is = omega (arith, size-by (message_of book typ).teid with_teid, sizes-is)
+  size_is = omega (arith, size-by (message_of book typ).teid, sizes-is)
 
-  twelve-by : (c : Bool) → at ≡ cond c 12 8 → eqb at 12 ≡ c
-  twelve-by true e = rw e
-  twelve-by false e = rw e
+  some-by : (c : Bool) → is_some (cond c (Some teid) None) ≡ c
+  some-by true = refl
+  some-by false = refl
 
-  message-is : message kind typ teid sequence at rows count values room ≡ built book kind typ teid sequence t values
+  rest-by : (c : Bool) → rest_of (is_some (cond c (Some teid) None)) (teid_in (cond c (Some teid) None)) sequence ≡ rest_of c teid sequence
+  rest-by true = refl
+  rest-by false = refl
+
+  message-is : message kind typ lent sequence rows count values room ≡ built book kind typ teid sequence t values
   unfolding built
   message-is =
       let rest = rest_given book kind typ teid sequence t values in
       let e : n - 4 ≡ length (rest_given book kind typ teid sequence t values) + length (emitted 0 (given_rows t values)) =
       omega (arith, size_is, emitted-size 0 (given_rows t values)) in
-      rw (e, twelve-by (message_of book typ).teid with_teid, parts_is)
+      rw (e, rest-by (message_of book typ).teid, some-by (message_of book typ).teid, parts_is)
 
   built-length : length (built book kind typ teid sequence t values) ≡ built_length book kind typ teid sequence t values
   unfolding built
   built-length =
       omega (arith, length-append (rest_given book kind typ teid sequence t values) (emitted 0 (given_rows t values)), emitted-size 0 (given_rows t values))
 
-  late_is : first (late_checks kind typ teid sequence at rows count values room) ≡ late_verdict book kind typ teid sequence t values (length room)
+  late_is : first (late_checks kind typ lent sequence rows count values room) ≡ late_verdict book kind typ teid sequence t values (length room)
   unfolding build_checks first check
   late_is = rw (message-is, size_is, o.kind_known, o.type_listed, o.on_kind, none-holds sequence t values o.right)
 
-  pub builds : {s : Sent} {room' : List ℕ} → Made kind typ teid sequence at rows count values room s room' → BuildsBy kind typ teid sequence t values room s room'
-  builds {s} {room'} b = record {
-    verdict_is = b.verdict_is ∙ late_is;
-    length_is = b.length_is ∙ rw (late_is, size_is, built-length);
-    room_left = b.room_left ∙ rw (late_is, message-is);
-  }
+  pub builds : (h : Header) → Heads typ teid sequence h → {s : Sent} {room' : List ℕ} → Made kind h.typ h.teid h.sequence rows count values room s room' → BuildsBy kind typ teid sequence t values room s room'
+  builds h heads {s} {room'} made =
+      let b : Made kind typ lent sequence rows count values room s room' = rw (heads.typ_is, heads.teid_is, heads.sequence_is) at made in
+      record {
+        verdict_is = b.verdict_is ∙ late_is;
+        length_is = b.length_is ∙ rw (late_is, size_is, built-length);
+        room_left = b.room_left ∙ rw (late_is, message-is);
+      }
 
 -- ---- the table says kind and type
 
 module _ (teid sequence : ℕ) (t values room : List ℕ) where
-  pub no_header : length t < header_numbers → (s : Sent) → s ≡ record { verdict = refused 14 0; length = 0 } → Builds teid sequence t values room s room
+  pub no_header : length t < header_numbers → (v : Verdict) → v ≡ refused 14 0 → Builds teid sequence t values room (sent_of (Err v)) room
   unfolding headed_checks first check build_length build_room
-  no_header l s w = let e = lt-ltb (length t) header_numbers l in record { verdict_is = rw (w, e); length_is = rw (w, e); room_left = rw e }
+  no_header l v w = let e = lt-ltb (length t) header_numbers l in record { verdict_is = rw (w, e); length_is = rw e; room_left = rw e }
 
   pub by-header : header_numbers ≤ length t → {k y : ℕ} → k ≡ table_kind t → y ≡ table_type t → {s : Sent} {room' : List ℕ} → BuildsBy k y teid sequence t values room s room'
       → Builds teid sequence t values room s room'

@@ -1,15 +1,20 @@
 -- What the functions that make a message ask and leave, by the rows' numbers. Assumes nothing.
-use Rattle.std.specs.Prelude.{◌≡◌, ◌⊎◌, false, cond, not, ◌||◌, List, [], ◌∷◌, ◌++◌, ℕ, ◌+◌, ◌-◌, ◌/◌, ◌%◌, ◌≤◌, ◌<◌, eqb, ltb, length}
+use Rattle.std.specs.Prelude.{◌≡◌, true, false, Option, Some, None, Result, MatchResult, cond, not, ◌||◌, List, [], ◌∷◌, ◌++◌, ℕ, ◌+◌, ◌≤◌, ◌<◌, ltb, length}
 use Rattle.rules.specs.Sizes.{largest_message}
 use Rattle.rules.specs.Types.{among, is_group}
 use Rattle.rules.specs.Listings.{book, is_message, message_of}
 use Rattle.rules.specs.Table.{laid}
 use Rattle.rules.specs.Emitting.{accepted_whole}
-use Rattle.rules.specs.Built.{first_of, rest_of, reasons, any_of, built, late_verdict}
+use Rattle.rules.specs.Built.{reasons, any_of, built, late_verdict}
 use Rattle.rules.specs.Verdicts.{check, refused, refuses, first}
 use Rattle.rules.specs.declared.Verdict.{Verdict}
 use Rattle.rules.specs.declared.Sent.{Sent}
-use Rattle.emitting.specs.Emits.{number, sizes_in, parts_in, HasRows}
+use Rattle.rules.proofs.Reasons.{NoReason}
+use Rattle.answers.specs.declared.Refusal.{Refusal}
+use Rattle.building.specs.declared.header.Header.{Header}
+use Rattle.building.specs.Start.{header_size, start_of}
+use Rattle.answers.specs.Refusals.{verdict_of}
+use Rattle.emitting.specs.Emits.{number, sizes_in, parts_in}
 
 -- the checks before the message is made
 abbrev pub early_checks : ℕ → ℕ → ℕ → List ℕ → List ℕ → List Verdict
@@ -20,17 +25,23 @@ early_checks k typ sequence t values =
     ∷ check (any_of (reasons sequence t values)) (refused 14 0)
     ∷ []
 
--- the header, of `at` octets, of a message of n
-abbrev pub start_of : ℕ → ℕ → ℕ → ℕ → ℕ → List ℕ
-start_of at typ teid sequence n = first_of (eqb at 12) ∷ typ ∷ (n - 4) / 256 ∷ (n - 4) % 256 ∷ rest_of (eqb at 12) teid sequence
+-- what a table is, for a kind and a type, where none of them applies
+pub record Opens (kind typ sequence : ℕ) (t values : List ℕ) : Type 0 where
+  pub kind_known : among kind book.kinds ≡ true
+  pub type_listed : is_message book typ ≡ true
+  pub on_kind : among kind (message_of book typ).kinds ≡ true
+  pub right : NoReason sequence t values
 
-pub record Starts (at typ sequence n : ℕ) (out : List ℕ) : Type 0 where
-  pub at_is : (at ≡ 8) ⊎ (at ≡ 12)
-  pub typ_octet : typ < 256
-  pub low : sequence ≤ 16777215
-  pub least : 4 ≤ n
-  pub two : n < 65540
-  pub room : 12 ≤ length out
+-- what is said of a header, which carries a TEID exactly if its type wants one
+pub record Heads (typ teid sequence : ℕ) (h : Header) : Type 0 where
+  pub typ_is : h.typ ≡ typ
+  pub teid_is : h.teid ≡ cond (message_of book typ).teid (Some teid) None
+  pub sequence_is : h.sequence ≡ sequence
+
+-- the header, or the first that applies
+abbrev pub Early : ℕ → ℕ → ℕ → ℕ → List ℕ → List ℕ → Result Header Refusal → Type 0
+Early kind typ teid sequence t values r =
+    MatchResult r (λ h. Opens kind typ sequence t values × Heads typ teid sequence h) (λ e. verdict_of e ≡ first (early_checks kind typ sequence t values))
 
 -- 16: it would not be accepted with each row kept
 abbrev pub sixteen : ℕ → List ℕ → Verdict
@@ -38,12 +49,12 @@ sixteen kind m = check (not (accepted_whole book kind m)) (refused 16 0)
 
 -- ---- a message by its rows
 
-module _ (kind typ teid sequence at : ℕ) (rows : List ℕ) (count : ℕ) (values room : List ℕ) where
+module _ (kind typ : ℕ) (teid : Option ℕ) (sequence : ℕ) (rows : List ℕ) (count : ℕ) (values room : List ℕ) where
   abbrev pub size : ℕ
-  size = at + sizes_in rows 0 count
+  size = header_size teid + sizes_in rows 0 count
 
   abbrev pub message : List ℕ
-  message = start_of at typ teid sequence size ++ parts_in rows count values false 0 count
+  message = start_of typ teid sequence size ++ parts_in rows count values false 0 count
 
   abbrev pub late_checks : List Verdict
   late_checks =
@@ -55,26 +66,16 @@ pub record By (v : Verdict) (n : ℕ) (m room : List ℕ) (answer : Sent) (room'
   pub length_is : answer.length ≡ cond (refuses v) 0 n
   pub room_left : room' ≡ cond (refuses v) room (laid m room)
 
--- a type that is listed and its header's length, and rows that can be written
-pub record Makes (typ sequence at : ℕ) (rows : List ℕ) (count : ℕ) (values : List ℕ) : Type 0 where
-  pub at_is : (at ≡ 8) ⊎ (at ≡ 12)
-  pub typ_octet : typ < 256
-  pub low : sequence ≤ 16777215
-  pub has : HasRows rows count
+-- rows that can be written
+pub record Makes (rows : List ℕ) (count : ℕ) (values : List ℕ) : Type 0 where
   pub types : (n : ℕ) → n < count → number rows n 1 < 256
-  pub lengths : (n : ℕ) → n < count → number rows n 4 < 65536
   pub there : (n : ℕ) → n < count → is_group (number rows n 1) ≡ false → number rows n 3 + number rows n 4 ≤ length values
   pub octets : length (parts_in rows count values false 0 count) ≡ sizes_in rows 0 count
 
-abbrev pub Made : ℕ → ℕ → ℕ → ℕ → ℕ → List ℕ → ℕ → List ℕ → List ℕ → Sent → List ℕ → Type 0
-Made kind typ teid sequence at rows count values room answer room' =
-    By (first (late_checks kind typ teid sequence at rows count values room)) (size kind typ teid sequence at rows count values room)
-    (message kind typ teid sequence at rows count values room) room answer room'
-
--- a draft whose first n octets are the message
-pub record Sends (n : ℕ) (draft room : List ℕ) : Type 0 where
-  pub there : n ≤ length draft
-  pub fits : n ≤ length room
+abbrev pub Made : ℕ → ℕ → Option ℕ → ℕ → List ℕ → ℕ → List ℕ → List ℕ → Sent → List ℕ → Type 0
+Made kind typ teid sequence rows count values room answer room' =
+    By (first (late_checks kind typ teid sequence rows count values room)) (size kind typ teid sequence rows count values room)
+    (message kind typ teid sequence rows count values room) room answer room'
 
 -- ---- the builder, once it knows kind and type
 

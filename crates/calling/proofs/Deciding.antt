@@ -20,18 +20,14 @@ use Rattle.rules.specs.declared.Verdict.{Verdict}
 use Rattle.rules.specs.declared.Reading.{Reading}
 use Rattle.rules.proofs.Header.{Passed, framed}
 use Rattle.rules.proofs.Rows.{Octets}
-use Rattle.answers.proofs.Refusing.{refusing, accepting}
 use Rattle.masking.specs.Clearing.{cleared_rows, Masks}
 use Rattle.masking.proofs.Masks.{masks, masked-is}
 use Rattle.calling.specs.Calling.{lent_on, turned}
 use Rattle.calling.proofs.Lent.{lent_is, call_lent, lent-passes}
 
-module _ (k : ℕ) (m : List ℕ) {rows rows' : List ℕ} {r : Reading} (x : Read k m rows r rows') (room : ℕ) (copy : List ℕ) (w : Verdict) (is : w ≡ lent_on r (length m) (length copy) room) where
+module _ (k : ℕ) (m : List ℕ) {rows rows' : List ℕ} {r : Reading} (x : Read k m rows r rows') (room : ℕ) (copy : List ℕ) where
   abbrev lent : Verdict
   lent = first (lent_checks book k m (length copy) room)
-
-  w-is : w ≡ lent
-  w-is = is ∙ lent_is k m (length copy) room x
 
   rows_are : r.rows ≡ (reading_of book k m).rows
   rows_are = ap (λ (a : Reading). a.rows) x.answers
@@ -43,15 +39,15 @@ module _ (k : ℕ) (m : List ℕ) {rows rows' : List ℕ} {r : Reading} (x : Rea
   same-either true l = refl
   same-either false l = refl
 
-  module _ (n : w.code ≡ 0 → ⊥) where
+  module _ {w : Verdict} (is : w ≡ lent_on r (length m) (length copy) room) (n : true ≡ refuses (lent_on r (length m) (length copy) room)) where
     turns : refuses lent ≡ true
-    turns = rw w-is at (refusing w n)
+    turns = rw (← lent_is k m (length copy) room x) (sym n)
 
     verdict-lent : w ≡ call_verdict book k m (length copy) room
-    verdict-lent = w-is ∙ sym (call_lent k m (length copy) room ∙ rw turns)
+    verdict-lent = is ∙ lent_is k m (length copy) room x ∙ sym (call_lent k m (length copy) room ∙ rw turns)
 
     call_turns : refuses (call_verdict book k m (length copy) room) ≡ true
-    call_turns = rw (← verdict-lent) (refusing w n)
+    call_turns = rw (← verdict-lent, is) (sym n)
 
     pub by-lent : Decided k m rows room copy (turned w r) rows' copy
     unfolding decision_of call_copy
@@ -61,9 +57,9 @@ module _ (k : ℕ) (m : List ℕ) {rows rows' : List ℕ} {r : Reading} (x : Rea
       copy_left = rw turns (sym (same-either (ltb (length rows) (row_numbers * (reading_of book k m).rows)) copy));
     }
 
-  module _ (z : w.code ≡ 0) where
+  module _ (z : false ≡ refuses (lent_on r (length m) (length copy) room)) where
     lets : refuses lent ≡ false
-    lets = rw (← w-is, z)
+    lets = rw (← lent_is k m (length copy) room x) (sym z)
 
     passes : refuses (first (framing_checks book k m)) ≡ false
     passes = (lent-passes k m (length copy) room lets).0
@@ -90,14 +86,14 @@ module _ (k : ℕ) (m : List ℕ) {rows rows' : List ℕ} {r : Reading} (x : Rea
             go true f = rw (← rows_are, f)
             go false f = rw (← rows_are, f) (masked-is k m x octets (ltb-false _ _ f) passes copy)
 
-        pub by-refusal : (v.code ≡ 0 → ⊥) → Decided k m rows room copy (turned v r) rows' copy'
+        pub by-refusal : true ≡ refuses (first (r.short ∷ r.lack ∷ [])) → Decided k m rows room copy (turned v r) rows' copy'
         unfolding decision_of
         by-refusal n =
-            let t : refuses (call_verdict book k m (length copy) room) ≡ true = rw (← verdict-rest) (refusing v n) in
+            let t : refuses (call_verdict book k m (length copy) room) ≡ true = rw (← verdict-rest, e) (sym n) in
             record { answers = rw (t, verdict-rest, rows_are, kept_are); rows_left = x.rows_left; copy_left = copy_is }
 
-        pub by-acceptance : v.code ≡ 0 → Decided k m rows room copy (record { verdict = v; rows = r.rows; kept = r.kept; typ = octet m 1; kind = k }) rows' copy'
+        pub by-acceptance : false ≡ refuses (first (r.short ∷ r.lack ∷ [])) → Decided k m rows room copy (record { verdict = v; rows = r.rows; kept = r.kept; typ = octet m 1; kind = k }) rows' copy'
         unfolding decision_of message_type
         by-acceptance n =
-            let t : refuses (call_verdict book k m (length copy) room) ≡ false = rw (← verdict-rest) (accepting v n) in
+            let t : refuses (call_verdict book k m (length copy) room) ≡ false = rw (← verdict-rest, e) (sym n) in
             record { answers = rw (t, verdict-rest, rows_are, kept_are); rows_left = x.rows_left; copy_left = copy_is }

@@ -1,48 +1,21 @@
 -- What leaves all as it was lent, on a reading, is what the rules say: 1 to 9, then 13, then 10. Where none of them applies the rest is 11 and 12. Assumes nothing.
---     too_short, long-enough   one length against another      lent_by   the code's two firsts are one
 --     lent_is   on a reading          call_lent   the call's verdict by it          lent-passes   what is known where it refuses nothing
 use mathlib.Core.Path.{◌≡◌, refl, sym, ap, ◌∙◌}
 use mathlib.Core.Bool.{Bool, true, false, cond}
-use mathlib.Core.List.{List, [], ◌∷◌, append_assoc, append-nil}
-use Prim.Native.Nat.{ℕ, ◌≤◌, ◌<◌}
-use borrow.Author.Tests.{ltb-false, lt-ltb, le-ltb}
+use mathlib.Core.List.{List, [], ◌∷◌, append_assoc}
+use Prim.Native.Nat.{ℕ, ◌≤◌}
+use borrow.Author.Tests.{ltb-false}
 use lib.Dec.{ltb}
 use lib.ListN.{length}
 use Rattle.rules.specs.Sizes.{used}
 use Rattle.rules.specs.Listings.{book}
 use Rattle.rules.specs.Taking.{body_level}
-use Rattle.rules.specs.Verdicts.{accepted, refused, check, refuses, first, framing_checks, items, copy_check, room_check, short_verdict, lack_verdict, lent_checks, call_checks, call_verdict}
+use Rattle.rules.specs.Verdicts.{refused, refuses, first, framing_checks, items, copy_check, room_check, short_verdict, lack_verdict, lent_checks, call_checks, call_verdict}
 use Rattle.rules.specs.Answers.{reading_of, Read}
 use Rattle.rules.specs.declared.Verdict.{Verdict}
 use Rattle.rules.specs.declared.Reading.{Reading}
 use Rattle.rules.proofs.Checks.{first_append, both-pass, check-off, AllPass, all_pass}
 use Rattle.calling.specs.Calling.{lent_on}
-
--- ---- by the tests of the code
-
-module _ (a n : ℕ) (v : Verdict) {w : Verdict} where
-  pub too_short : a < n → w ≡ v → w ≡ check (ltb a n) v
-  unfolding check
-  too_short l e = e ∙ rw (lt-ltb a n l)
-
-  pub long-enough : n ≤ a → w ≡ accepted → w ≡ check (ltb a n) v
-  unfolding check
-  long-enough l e = e ∙ rw (le-ltb a n l)
-
--- the first of a check and the first of others is the first of all
-first-nested : (u : Verdict) (vs : List Verdict) → first (u ∷ first vs ∷ []) ≡ first (u ∷ vs)
-unfolding first
-first-nested u vs =
-    let e : first vs ≡ cond (refuses (first vs)) (first vs) accepted = ap first (sym (append-nil vs)) ∙ first_append vs [] in
-    ap (λ (x : Verdict). cond (refuses u) u x) (sym e)
-
-module _ (r : Reading) (size octets room : ℕ) {copy table both v : Verdict} where
-  pub lent_by : copy ≡ check (ltb octets size) (refused 13 0) → table ≡ check (ltb room (used r.rows)) (refused 10 0) → both ≡ first (copy ∷ table ∷ [])
-      → v ≡ first (r.refusal ∷ both ∷ []) → v ≡ lent_on r size octets room
-  unfolding lent_on
-  lent_by c t b e = e ∙ rw (b, c, t) (first-nested r.refusal (check (ltb octets size) (refused 13 0) ∷ check (ltb room (used r.rows)) (refused 10 0) ∷ []))
-
--- ---- by the rules
 
 module _ (k : ℕ) (m : List ℕ) (octets room : ℕ) where
   abbrev lent : Verdict

@@ -1,4 +1,3 @@
 pub mod Lent
 pub mod Deciding
 pub mod Settling
-pub mod Held

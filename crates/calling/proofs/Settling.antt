@@ -22,7 +22,7 @@ use Rattle.rules.proofs.Calls.{call_masked, call_judged}
 use Rattle.rules.proofs.Readings.{few}
 use Rattle.judging.proofs.Accepted.{Ready, ready}
 use Rattle.octets.specs.Stored.{table_stored}
-use Rattle.octets.proofs.Tables.{fits}
+use Rattle.octets.proofs.Octets.{fits}
 use Rattle.calling.specs.Calling.{Settles, Settled, Stored}
 
 module _ (k : ℕ) (m : List ℕ) {rows rows' copy copy' : List ℕ} {room : ℕ} {d : Decision} (x : Decided k m rows room copy d rows' copy') where

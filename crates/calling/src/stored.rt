@@ -12,25 +12,25 @@ use rules::{Decision, Verdict};
 fn store(d: Decision, rows: &[u16], table: &mut [u8]) -> Verdict
     ensures { Stored d rows.now table.old result table.new }
 {
-    let v = d.verdict;
-    if v.code != 0 {
-        return v;
+    // five numbers are what C is told
+    if d.verdict.code == 0 {
+        octets::put_table(rows, d.rows, d.kept, d.typ, d.kind, table);
     }
-    octets::put_table(rows, d.rows, d.kept, d.typ, d.kind, table);
-    v
+    d.verdict
 }
 
-// With room for the rows of any message.
+// With room for the rows of any message. Kept out of its callers, which would have that room on the stack too.
+#[inline(never)]
 fn by_all(kind: u32, message: &[u8], table: &mut [u8], copy: &mut [u8]) -> Verdict
     ensures { CalledStored kind message.now table.old copy.old result table.new copy.new }
 {
-    let mut all = scratch::large();
+    let mut all = [0; scratch::ALL];
     let numbers = table.len() / 2;
     let d = decide(kind, message, &mut all, numbers, copy);
     store(d, &all, table)
 }
 
-// With room for few rows first: rows are counted also where the scratch is full, so that the count says whether it holds them all.
+// With room for few rows first, since the card's stack has none to waste: rows are counted also where the scratch is full, so that the count says whether it holds them all.
 fn by_few(kind: u32, message: &[u8], table: &mut [u8], copy: &mut [u8]) -> Verdict
     ensures { CalledStored kind message.now table.old copy.old result table.new copy.new }
 {
@@ -38,7 +38,7 @@ fn by_few(kind: u32, message: &[u8], table: &mut [u8], copy: &mut [u8]) -> Verdi
         return by_all(kind, message, table, copy);
     }
     let room = table.len() / 2;
-    let mut few = scratch::small();
+    let mut few = [0; scratch::FEW];
     let d = decide(kind, message, &mut few, room, copy);
     if 64 < d.rows {
         return by_all(kind, message, table, copy);
@@ -46,26 +46,16 @@ fn by_few(kind: u32, message: &[u8], table: &mut [u8], copy: &mut [u8]) -> Verdi
     store(d, &few, table)
 }
 
-// A message of few octets, copied first.
-fn of_slip(kind: u32, message: &[u8], table: &mut [u8], copy: &mut [u8]) -> Verdict
-    requires { length message.now ≤ 264 }
+// A message for which N octets are enough, copied first.
+fn copied<const N: usize>(kind: u32, message: &[u8], table: &mut [u8], copy: &mut [u8]) -> Verdict
+    requires room { length message.now ≤ N }
+    requires most { N ≤ largest_message }
     ensures { CalledStored kind message.now table.old copy.old result table.new copy.new }
 {
-    let mut slip = scratch::slip();
+    let mut octets = [0; N];
     let n = message.len();
-    copying::copy_octets(message, &mut slip);
-    by_few(kind, &slip[..n], table, copy)
-}
-
-// A message of any length that is not refused for it, copied first.
-fn of_page(kind: u32, message: &[u8], table: &mut [u8], copy: &mut [u8]) -> Verdict
-    requires { length message.now ≤ largest_message }
-    ensures { CalledStored kind message.now table.old copy.old result table.new copy.new }
-{
-    let mut page = scratch::page();
-    let n = message.len();
-    copying::copy_octets(message, &mut page);
-    by_few(kind, &page[..n], table, copy)
+    octets[..n].copy_from_slice(message);
+    by_few(kind, &octets[..n], table, copy)
 }
 
 // The verdict on a message. The table is written on acceptance alone, and the copy where 11 or 12 refuse, too. One that is too long is refused with no octet
@@ -73,11 +63,11 @@ fn of_page(kind: u32, message: &[u8], table: &mut [u8], copy: &mut [u8]) -> Verd
 pub fn judge_copy(kind: u32, message: &[u8], table: &mut [u8], copy: &mut [u8]) -> Verdict
     ensures { CalledStored kind message.now table.old copy.old result table.new copy.new }
 {
-    if message.len() <= 264 {
-        return of_slip(kind, message, table, copy);
+    if message.len() <= scratch::SLIP {
+        return copied::<{ scratch::SLIP }>(kind, message, table, copy);
     }
-    if message.len() <= 4096 {
-        return of_page(kind, message, table, copy);
+    if message.len() <= scratch::PAGE {
+        return copied::<{ scratch::PAGE }>(kind, message, table, copy);
     }
     by_all(kind, message, table, copy)
 }

@@ -129,7 +129,7 @@ module _ (k : ℕ) (m : List ℕ) {rows rows' : List ℕ} {r : Reading} (read : 
         let s = num n 4 h (omega arith) in
         record {
           typ = omega (arith, t, f.typ);
-          len = length-low rows' n r.rows l (omega (arith, size-most k m read octets held pass, (all k m read octets held pass).0.most)) (omega (arith, s, q, (all k m read octets held pass).0.most));
+          len = length-low rows' n r.rows l (omega (arith, size-most k m read octets held pass, (all k m read octets held pass).0.most));
           least = λ c. omega (arith, p);
           most = λ c. omega (arith, p, q);
           there = λ c. omega (arith, p, s, q);

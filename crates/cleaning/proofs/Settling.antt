@@ -4,7 +4,6 @@ use mathlib.Core.Bool.{Bool, true, false, cond}
 use mathlib.Core.List.{List, [], ◌∷◌}
 use Prim.Native.Nat.{ℕ, zero, suc, ◌≤◌, ◌<◌}
 use native.Mathlib.Omega.{arith}
-use native.Mathlib.Nat.{pos_of_ne-zero}
 use borrow.Author.Tests.{lt-ltb, le-ltb, ltb-false}
 use lib.Dec.{ltb}
 use lib.ListN.{length}
@@ -16,12 +15,6 @@ use Rattle.rules.specs.declared.Sent.{Sent}
 use Rattle.rules.proofs.Checks.{AllPass, all_pass}
 use Rattle.emitting.specs.Emits.{put_rows}
 use Rattle.cleaning.specs.Cleaning.{size, front_octets, copy_of, room_check, Copied, Settled}
-
-on : (v : Verdict) → (v.code ≡ 0 → ⊥) → refuses v ≡ true
-on v z = lt-ltb 0 v.code (pos_of_ne-zero z)
-
-off : (v : Verdict) → v.code ≡ 0 → refuses v ≡ false
-off v z = le-ltb 0 v.code (omega arith)
 
 -- ---- the copy
 
@@ -72,17 +65,17 @@ module _ (r : Reading) (rows m out : List ℕ) (v : Verdict) (e : v ≡ first (r
   verdict-by : first (r.refusal ∷ r.short ∷ r.lack ∷ late ∷ []) ≡ cond (refuses v) v late
   verdict-by = rw e (firsts r.refusal r.short r.lack late ∙ rw (last (ltb (length out) (size r.rows rows m)) v))
 
-  pub by-refusal : (v.code ≡ 0 → ⊥) → Settled r rows m out (record { verdict = v; length = 0 }) out
-  by-refusal z = rw (verdict-by, on v z) (record { verdict_is = refl; length_is = rw (on v z); out_left = rw (on v z) })
+  pub by-refusal : refuses v ≡ true → Settled r rows m out (record { verdict = v; length = 0 }) out
+  by-refusal z = rw (verdict-by, z) (record { verdict_is = refl; length_is = rw z; out_left = rw z })
 
-  pub by_copy : v.code ≡ 0 → {s : Sent} {out' : List ℕ} → Copied r.rows rows m out s out' → Settled r rows m out s out'
-  by_copy z c = rw (verdict-by, off v z) c
+  pub by_copy : refuses v ≡ false → {s : Sent} {out' : List ℕ} → Copied r.rows rows m out s out' → Settled r rows m out s out'
+  by_copy z c = rw (verdict-by, z) c
 
   -- it was not refused by 1 to 9
-  pub passes : v.code ≡ 0 → r.refusal.code ≡ 0
+  pub passes : refuses v ≡ false → r.refusal.code ≡ 0
   unfolding AllPass
   passes z =
-      let a = (all_pass (r.refusal ∷ first (r.short ∷ r.lack ∷ []) ∷ [])).0 (rw (← e) (off v z)) in
+      let a = (all_pass (r.refusal ∷ first (r.short ∷ r.lack ∷ []) ∷ [])).0 (rw (← e) z) in
       none r.refusal.code a.0
     where
       none : (n : ℕ) → ltb 0 n ≡ false → n ≡ 0

@@ -11,9 +11,9 @@ use Rattle.rules.specs.declared.Verdict.{Verdict}
 use Rattle.lookup.specs.Lent.{HasRow, HasRows, desk_by}
 use Rattle.lookup.proofs.Tables.{rows_in}
 use Rattle.lookup.proofs.Spans.{own-desk}
-use Rattle.wording.specs.Puts.{Puts}
-use Rattle.wording.proofs.Puts.{then-puts}
-use Rattle.wording.proofs.Turns.{Turning}
+use Rattle.wording.specs.declared.Sheet.{Sheet}
+use Rattle.wording.specs.Sheets.{Writes}
+use Rattle.wording.proofs.Sheets.{then-writes}
 use Rattle.phrases.specs.Words.{newline}
 use Rattle.phrases.specs.Table.{rows, marks}
 use Rattle.phrases.specs.Sentences.{said}
@@ -44,14 +44,9 @@ module _ (names table : List ℕ) (w : View) (v : Verdict) (count row : ℕ) (m 
       ∙ ap (λ (s : Span). take s.len (drop s.start (cond w.right m c).now)) span-is
       ∙ ap (λ l. take (desk_span w.kind row m.now (length c.now) table).len (drop (desk_span w.kind row m.now (length c.now) table).start l)) (seen-is w.right m c)
 
-  pub line-put : {run : List ℕ} {mark at₀ at₁ at₂ at₃ at₄ : ℕ} {out₀ out₁ out₂ out₃ out₄ : List ℕ} → run ≡ row_run table row → mark ≡ marked v (get_or run 4 0)
-      → Puts (said names run rows (get_or run 1 0)) at₀ out₀ at₁ out₁ → Puts (ending names run w (get_or run 2 0) (get_or run 6 0) part.now) at₁ out₁ at₂ out₂
-      → Puts (said names run marks mark) at₂ out₂ at₃ out₃ → Puts newline at₃ out₃ at₄ out₄
-      → Puts (row_line names w v table m.now c.now row) at₀ out₀ at₄ out₄
+  pub line_put : {run : List ℕ} {mark : ℕ} {s₀ s₁ s₂ s₃ s₄ : Sheet} → run ≡ row_run table row → mark ≡ marked v (get_or run 4 0)
+      → Writes (said names run rows (get_or run 1 0)) s₀ s₁ → Writes (ending names run w (get_or run 2 0) (get_or run 6 0) part.now) s₁ s₂
+      → Writes (said names run marks mark) s₂ s₃ → Writes newline s₃ s₄
+      → Writes (row_line names w v table m.now c.now row) s₀ s₄
   unfolding row_line
-  line-put e k p f q z = rw (← part-is) (then-puts (rw e at p) (then-puts (rw e at f) (then-puts (rw (k, e) at q) z)))
-
--- the loop over the rows
-pub record Rowing (names : List ℕ) (w : View) (v : Verdict) (table m c : List ℕ) (count at₀ : ℕ) (out₀ : List ℕ) (to : ℕ) (out : List ℕ) (n : ℕ) : Type 0 where
-  pub turning : Turning (row_line names w v table m c) 0 count at₀ out₀ to out n
-  pub all : count ≡ table_rows w.kind m table
+  line_put e k p f q z = rw (← part-is) (then-writes (rw e at p) (then-writes (rw e at f) (then-writes (rw (k, e) at q) z)))

@@ -4,8 +4,10 @@ use mathlib.Core.Bool.{Bool, true, false, cond, ◌&&◌}
 use mathlib.Core.List.{List, [], ◌∷◌}
 use Prim.Native.Nat.{ℕ, ◌≤◌, ◌<◌}
 use native.Mathlib.Omega.{arith}
-use borrow.Author.Tests.{ne_eqb, ltb-true, ltb-false}
+use borrow.Author.Tests.{ne_eqb, lt-ltb, le-ltb, ltb-true, ltb-false}
 use lib.Dec.{ltb}
+use Rattle.std.specs.Prelude.{Result, Ok, Err, OkIff}
+use Rattle.std.specs.Result.{result_unwrap_or}
 use Rattle.rules.specs.Types.{among, groups, is_group, whole_types, covers_whole, rest_types, covers_rest}
 use Rattle.rules.specs.Covered.{open_octets}
 use Rattle.rules.proofs.Lines.{and_left, and_right}
@@ -75,3 +77,14 @@ pub seen_most : (right : Bool) (t s n : ℕ) → seen_octets right t s n ≤ n
 unfolding seen_octets
 seen_most true t s n = omega arith
 seen_most false t s n = open_most t s n
+
+-- ---- the octet of a type
+
+pub type_by : {E : Type 0} (r : Result ℕ E) (t : ℕ) → OkIff r (t < 256) t → result_unwrap_or r 0 ≡ type_octet t
+unfolding type_octet
+type_by (Ok x) t (l, e) = rw (lt-ltb t 256 l, e)
+type_by (Err x) t l = rw (le-ltb t 256 (omega arith))
+
+-- no test fails and passes
+pub not-both : {c : Bool} → c ≡ false → c ≡ true → ⊥
+not-both e f = let y : ◌≡◌ {A = ℕ} 0 1 = cc in absurd (omega arith)

@@ -8,6 +8,7 @@ use Rattle.phrases.specs.Words.{newline}
 use Rattle.phrases.specs.Table.{rows, marks}
 use Rattle.phrases.specs.Sentences.{said, narrow}
 use Rattle.columns.specs.Values.{ending}
+use Rattle.columns.specs.declared.Listing.{Listing}
 use Rattle.columns.specs.declared.View.{View}
 
 -- the numbers that are said of row r, which is shown as r + 1
@@ -41,6 +42,13 @@ module _ (names : List ℕ) where
   -- a line for each row
   unfoldable pub row_lines : View → Verdict → List ℕ → List ℕ → List ℕ → List ℕ
   row_lines w v table message copy = for_each (row_line w v table message copy) 0 (table_rows w.kind message table)
+
+-- with what the lines are made from
+abbrev pub line_of : Listing → ℕ → List ℕ
+line_of l r = row_line l.names.now l.view l.verdict l.table.now l.message.now l.copy.now r
+
+abbrev pub lines_of : Listing → List ℕ
+lines_of l = row_lines l.names.now l.view l.verdict l.table.now l.message.now l.copy.now
 
 -- a row among those that the table has for the message on a kind, with their count
 pub record Counted (k : ℕ) (message table : List ℕ) (count row : ℕ) : Type 0 where

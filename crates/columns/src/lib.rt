@@ -1,16 +1,17 @@
 // The table in lines, one a row, with the values that the viewer may see and the row marked that a refusal names.
 #![tactic(auto)]
 
-ghost use Rattle.std.specs.Prelude.{◌≡◌, length};
+ghost use Rattle.std.specs.Prelude.{◌≡◌};
 ghost use Rattle.rules.specs.Values.{cell};
-ghost use Rattle.lookup.specs.Lent.{Number, HasRow, Asked};
-ghost use Rattle.wording.specs.Puts.{Puts};
-ghost use Rattle.columns.specs.Rows.{row_run, marked, row_line, row_lines, Counted};
+ghost use Rattle.lookup.specs.Lent.{HasRow, Asked};
+ghost use Rattle.wording.specs.Sheets.{Writes};
+ghost use Rattle.columns.specs.Rows.{row_run, marked, line_of, lines_of, Counted};
 
-use phrases::runs::{narrow, number_at};
-use phrases::sentences::say;
-use phrases::{MARKS, ROWS};
+use phrases::runs::{get_or, narrow};
+use phrases::sections::Section;
+use phrases::sentences::Words;
 use rules::Verdict;
+use wording::Sheet;
 
 pub mod values;
 
@@ -22,12 +23,12 @@ pub struct View {
     pub full: bool,
 }
 
-// Number `j` of a row.
+// Number `j` of a row. Rows are flat numbers, as `lookup::rows` takes them.
 fn cell(table: &[u16], row: usize, j: usize) -> u16
     requires { Asked table.now row j }
     ensures { result ≡ cell table.now row j }
 {
-    number_at(table, 6 + 6 * row + j)
+    get_or(table, 6 + 6 * row + j, 0)
 }
 
 // The numbers that are said of a row, which is shown as one more.
@@ -46,69 +47,62 @@ fn row_run(table: &[u16], row: usize) -> [u16; 7]
     ]
 }
 
-fn wide(x: u16) -> usize
-    ensures { Number x result }
-{
-    x as usize
-}
-
-// The verdict's code where it names the element whose value is at `place`, else 0.
+// The verdict's code where it names the element whose value is at `place`, else 0: a text's number, as `Rows.marked` has it.
 fn marked(v: Verdict, place: u16) -> u16
     ensures { result ≡ marked v place }
 {
-    if wide(place) == wide(v.place) + 4 {
-        return v.code;
+    if usize::from(place) == usize::from(v.place) + 4 {
+        v.code
+    } else {
+        0
     }
-    0
 }
 
-// The line of a row of a table with `count` rows; its value is what the desk's lookup answers.
-fn line<'a>(
-    names: &[u8],
-    view: View,
-    v: Verdict,
-    table: &[u16],
-    message: &'a [u8],
-    copy: &'a [u8],
-    count: usize,
-    row: usize,
-    at: usize,
-    out: &mut [u8],
-) -> usize
-    requires { Counted view.kind message.now table.now count row }
-    ensures { Puts (row_line names.now view v table.now message.now copy.now row) at out.old result out.new }
-{
-    let run = row_run(table, row);
-    let parent = run[1];
-    let typ = run[2];
-    let place = run[4];
-    let stand = run[6];
-    let part = lookup::desk_part(count, row, view.right, message, copy, table);
-    let at1 = say(ROWS, parent, names, &run, at, out);
-    let at2 = values::ending(names, &run, view, typ, stand, part, at1, out);
-    let at3 = say(MARKS, marked(v, place), names, &run, at2, out);
-    wording::put(10, at3, out)
+// What the lines are made from: a table of the elements' names, who looks, the verdict on the message, its table, the message, and its
+// masked copy.
+#[derive(Clone, Copy)]
+pub struct Listing<'a> {
+    pub names: &'a [u8],
+    pub view: View,
+    pub verdict: Verdict,
+    pub table: &'a [u16],
+    pub message: &'a [u8],
+    pub copy: &'a [u8],
 }
 
-// A line for each row of a table.
-pub fn lines<'a>(
-    names: &[u8],
-    view: View,
-    v: Verdict,
-    table: &[u16],
-    message: &'a [u8],
-    copy: &'a [u8],
-    at: usize,
-    out: &mut [u8],
-) -> usize
-    ensures { Puts (row_lines names.now view v table.now message.now copy.now) at out.old result out.new }
-{
-    let count = lookup::rows(view.kind, message, table);
-    let mut to = at;
-    let mut row = 0;
-    while row < count {
-        to = line(names, view, v, table, message, copy, count, row, to, out);
-        row += 1;
+impl Listing<'_> {
+    // A line for each row of the table.
+    pub fn lines(&self, sheet: &mut Sheet)
+        ensures { Writes (lines_of self.now) sheet.old sheet.new }
+    {
+        let count = lookup::rows(self.view.kind, self.message, self.table);
+        for row in 0..count {
+            self.line(count, row, sheet);
+        }
     }
-    to
+
+    // The line of a row of the table, which has `count` rows; its value is what the desk's lookup answers.
+    fn line(&self, count: usize, row: usize, sheet: &mut Sheet)
+        requires { Counted self.now.view.kind self.now.message.now self.now.table.now count row }
+        ensures { Writes (line_of self.now row) sheet.old sheet.new }
+    {
+        let run = row_run(self.table, row);
+        let [_, parent, typ, _, place, _, stand] = run;
+        let part = lookup::desk_part(
+            count,
+            row,
+            self.view.right,
+            self.message,
+            self.copy,
+            self.table,
+        );
+        let words = Words {
+            names: self.names,
+            run: &run,
+        };
+        words.say(Section::Rows, parent, sheet);
+        values::ending(&words, self.view, typ, stand, part, sheet);
+        words.say(Section::Marks, marked(self.verdict, place), sheet);
+        sheet.put(b'\n');
+    }
 }

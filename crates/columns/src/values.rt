@@ -1,35 +1,29 @@
 // What a viewer sees of a value: its octets, or as many as the rules leave open and that the rest is covered.
 ghost use Rattle.std.specs.Prelude.{◌≡◌, ◌++◌, ◌≤◌, length, take};
-ghost use Rattle.wording.specs.Puts.{Puts};
+ghost use Rattle.wording.specs.Sheets.{Writes};
 ghost use Rattle.wording.specs.Pieces.{hexes};
-ghost use Rattle.phrases.specs.Table.{covers, endings, voids};
+ghost use Rattle.phrases.specs.Table.{covers};
 ghost use Rattle.phrases.specs.Sentences.{said, narrow};
 ghost use Rattle.columns.specs.Values.{type_octet, entered, seen_octets, octets_text, value_text, ending};
 
 use crate::View;
 use phrases::runs::narrow;
-use phrases::sentences::say;
-use phrases::{COVERS, ENDINGS, VOIDS};
+use phrases::sections::Section;
+use phrases::sentences::Words;
+use wording::Sheet;
 
 // A type from 256 on is like 0, which is no group and not covered.
 fn type_octet(typ: u16) -> u8
     ensures { result ≡ type_octet typ }
 {
-    if typ < 256 {
-        return typ as u8;
-    }
-    0
+    u8::try_from(typ).unwrap_or(0)
 }
 
-// A kept group has no value of its own to show, since its inner rows have it.
+// A kept group has no value of its own to show, since its inner rows have it. A standing is a row's sixth number, and may be any.
 pub fn entered(typ: u16, stand: u16) -> bool
     ensures { result ≡ entered typ stand }
 {
-    if stand != 0 {
-        return false;
-    }
-    let types = facts::table();
-    facts::group(&types, type_octet(typ))
+    stand == 0 && facts::group(facts::table(), type_octet(typ))
 }
 
 // How many leading octets of a value are seen: those that the masked copy shows, or all.
@@ -37,84 +31,63 @@ fn seen_octets(right: bool, typ: u16, stand: u16, len: usize) -> usize
     ensures { result ≡ seen_octets right typ stand len }
 {
     if right {
-        return len;
+        len
+    } else {
+        facts::open_octets(facts::table(), type_octet(typ), stand, len)
     }
-    let types = facts::table();
-    facts::open_octets(&types, type_octet(typ), stand, len)
 }
 
 // The octets in hex, 32 at most, so that a row stays one line, or all.
-fn octets(full: bool, part: &[u8], at: usize, out: &mut [u8]) -> usize
-    ensures { Puts (octets_text full part.now) at out.old result out.new }
+fn octets(full: bool, part: &[u8], sheet: &mut Sheet)
+    ensures { Writes (octets_text full part.now) sheet.old sheet.new }
 {
-    if full {
-        return wording::hexes(part, at, out);
+    if !full && 32 < part.len() {
+        sheet.hexes(&part[..32]);
+        sheet.copy(b"..");
+    } else {
+        sheet.hexes(part);
     }
-    if part.len() <= 32 {
-        return wording::hexes(part, at, out);
-    }
-    let after = wording::hexes(&part[..32], at, out);
-    wording::copy(b"..", after, out)
 }
 
 // The octets that are seen, and that the rest is covered.
-fn covered(names: &[u8], run: &[u16], n: usize, part: &[u8], at: usize, out: &mut [u8]) -> usize
+fn covered(words: &Words, n: usize, part: &[u8], sheet: &mut Sheet)
     requires { n ≤ length part.now }
-    ensures { Puts (hexes (take n part.now) ++ said names.now run.now covers (narrow n)) at out.old result out.new }
+    ensures { Writes (hexes (take n part.now) ++ said words.now.names.now words.now.run.now covers (narrow n)) sheet.old sheet.new }
 {
-    let after = wording::hexes(&part[..n], at, out);
-    say(COVERS, narrow(n), names, run, after, out)
+    sheet.hexes(&part[..n]);
+    words.say(Section::Covers, narrow(n), sheet);
 }
 
-fn value(
-    names: &[u8],
-    run: &[u16],
-    full: bool,
-    n: usize,
-    part: &[u8],
-    at: usize,
-    out: &mut [u8],
-) -> usize
+fn value(words: &Words, full: bool, n: usize, part: &[u8], sheet: &mut Sheet)
     requires { n ≤ length part.now }
-    ensures { Puts (value_text names.now run.now full n part.now) at out.old result out.new }
+    ensures { Writes (value_text words.now.names.now words.now.run.now full n part.now) sheet.old sheet.new }
 {
     if n == part.len() {
-        return octets(full, part, at, out);
+        octets(full, part, sheet);
+    } else {
+        covered(words, n, part, sheet);
     }
-    covered(names, run, n, part, at, out)
 }
 
-// A void group's standing in its column, and why it is set aside.
-fn set_aside(names: &[u8], run: &[u16], stand: u16, at: usize, out: &mut [u8]) -> usize
-    ensures { Puts (said names.now run.now endings 1 ++ said names.now run.now voids stand) at out.old result out.new }
-{
-    let after = say(ENDINGS, 1, names, run, at, out);
-    say(VOIDS, stand, names, run, after, out)
-}
-
-// The standing, in a column if a value follows. No octet of a void group is shown.
+// The standing, in a column if more follows: why a void group is set aside, of which no octet is shown, or the value.
 pub(crate) fn ending(
-    names: &[u8],
-    run: &[u16],
+    words: &Words,
     view: View,
     typ: u16,
     stand: u16,
     part: &[u8],
-    at: usize,
-    out: &mut [u8],
-) -> usize
-    ensures { Puts (ending names.now run.now view typ stand part.now) at out.old result out.new }
+    sheet: &mut Sheet,
+)
+    ensures { Writes (ending words.now.names.now words.now.run.now view typ stand part.now) sheet.old sheet.new }
 {
     if stand == 4 {
-        return set_aside(names, run, stand, at, out);
+        words.say(Section::Endings, 1, sheet);
+        words.say(Section::Voids, stand, sheet);
+    } else if entered(typ, stand) || part.is_empty() {
+        words.say(Section::Endings, 0, sheet);
+    } else {
+        let n = seen_octets(view.right, typ, stand, part.len());
+        words.say(Section::Endings, 1, sheet);
+        value(words, view.full, n, part, sheet);
     }
-    if entered(typ, stand) {
-        return say(ENDINGS, 0, names, run, at, out);
-    }
-    if part.len() == 0 {
-        return say(ENDINGS, 0, names, run, at, out);
-    }
-    let n = seen_octets(view.right, typ, stand, part.len());
-    let after = say(ENDINGS, 1, names, run, at, out);
-    value(names, run, view.full, n, part, after, out)
 }

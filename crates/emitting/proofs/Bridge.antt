@@ -14,6 +14,7 @@ use Rattle.rules.specs.Framing.{element_header}
 use Rattle.rules.specs.Types.{is_group}
 use Rattle.rules.specs.Standing.{kept}
 use Rattle.rules.specs.Emitting.{Piece, stays, size_of, sizes, within, head_octets, length_of, emitted}
+use Rattle.emitting.proofs.Puts.{sizes-next}
 use Rattle.emitting.specs.Emits.{number, size_at_row, sizes_in, within_rows, inside_in, length_in, last_in, value_in, parts_in}
 
 -- what pieces emit has their sizes
@@ -115,10 +116,17 @@ inside-most rows n count l =
     let z : 0 + (n + 1) ≡ n + 1 = omega arith in
     omega (arith, within-most rows (n + 1) (count - (n + 1)) (n + 1), rw (z, e) at (tail-most rows (n + 1) (count - (n + 1)) 0))
 
--- where all rows take few octets, each row's length has two
-pub length-low : (rows : List ℕ) (n count : ℕ) → n < count → sizes_in rows 0 count < 65536 → number rows n 4 < 65536 → length_in rows n count < 65536
-length-low rows n count l s h = go (is_group (number rows n 1)) (inside-most rows n count l)
+row-most : (rows : List ℕ) (n count : ℕ) → n < count → size_at_row rows n ≤ sizes_in rows 0 count
+unfolding sizes_in
+row-most rows n count l =
+    let e : n + (count - n) ≡ count = omega arith in
+    let f : 0 + n ≡ n = omega arith in
+    omega (arith, sizes-next rows n count l, rw (e, f) at (tail-most rows n (count - n) 0))
+
+-- where all rows take few octets, the length of each that is written has two
+pub length-low : (rows : List ℕ) (n count : ℕ) → n < count → sizes_in rows 0 count < 65536 → number rows n 5 ≡ kept → length_in rows n count < 65536
+length-low rows n count l s k = go (is_group (number rows n 1)) (inside-most rows n count l) (rw k at (row-most rows n count l))
   where
-    go : (c : Bool) → inside_in rows n count ≤ sizes_in rows 0 count → cond c (inside_in rows n count) (number rows n 4) < 65536
-    go true a = omega arith
-    go false a = h
+    go : (c : Bool) → inside_in rows n count ≤ sizes_in rows 0 count → cond c 4 (4 + number rows n 4) ≤ sizes_in rows 0 count → cond c (inside_in rows n count) (number rows n 4) < 65536
+    go true a h = omega arith
+    go false a h = omega arith

@@ -1,3 +1,4 @@
 pub mod Puts
 pub mod Overs
 pub mod Bridge
+pub mod Lent

@@ -1,23 +1,17 @@
 -- Octets laid over a part of a buffer: a row after a row. Assumes nothing.
-use mathlib.Core.Path.{◌≡◌, refl, sym, ap, ◌∙◌}
-use mathlib.Core.Bool.{Bool, true, false}
+use mathlib.Core.Path.{◌≡◌, sym, ap, ◌∙◌}
+use mathlib.Core.Bool.{Bool, false}
 use mathlib.Core.List.{List, [], ◌++◌, append_assoc, append-nil}
-use Prim.Native.Nat.{ℕ, suc, ◌+◌, ◌-◌, ◌≤◌, ◌<◌}
+use Prim.Native.Nat.{ℕ, ◌+◌, ◌-◌, ◌≤◌, ◌<◌}
 use native.Mathlib.Omega.{arith}
-use native.Mathlib.Nat.{add-zero}
-use borrow.Author.Tests.{eq-eqb, ne_eqb}
-use lib.ListN.{length, take, drop, length-append, length-drop, take-append-drop}
+use borrow.Rule.Slice.PartMut.{put_mid}
+use borrow.Author.Tests.{eq-eqb}
+use lib.ListN.{length, take, drop, length-append, length-drop}
 use lib.Seq.{length-take-le, take_at, drop_at, drop-drop}
 use Rattle.rules.specs.Types.{is_group}
 use Rattle.rules.specs.Emitting.{head_octets}
-use Rattle.emitting.specs.Emits.{number, length_in, inside_in, last_in, headed, valued, part_within, parts_in, over, PutsRow, PutRow, PutsRows, Heading, Valued}
-
-pub over_none : (out : List ℕ) (at : ℕ) → out ≡ over out at []
-over_none out at = let e : at + 0 ≡ at = add-zero at in rw e (sym (take-append-drop at out))
-
-pub over-length : (out : List ℕ) (at : ℕ) (xs : List ℕ) → at + length xs ≤ length out → length (over out at xs) ≡ length out
-over-length out at xs l =
-    omega (arith, length-append (take at out) (xs ++ drop (at + length xs) out), length-append xs (drop (at + length xs) out), length-take-le at out (omega arith), length-drop (at + length xs) out)
+use Rattle.emitting.proofs.Puts.{one_less}
+use Rattle.emitting.specs.Emits.{number, length_in, last_in, headed, valued, part_within, parts_in, over, PutsRow, PutRow, PutsRows}
 
 -- what stands before the end of what was laid, and after it
 front_of : (out : List ℕ) (at : ℕ) (xs : List ℕ) → at + length xs ≤ length out → take (at + length xs) (over out at xs) ≡ take at out ++ xs
@@ -42,31 +36,23 @@ over-over out at xs ys l =
     (append_assoc (take at out) xs (ys ++ drop (at + length xs + length ys) out)
     ∙ ap (λ (zs : List ℕ). take at out ++ zs) (sym (append_assoc xs ys (drop (at + length xs + length ys) out))))
 
--- ---- one row
+-- a part of a source, copied over a part of a buffer
+pub laid-over : (source : List ℕ) (place len : ℕ) (out : List ℕ) (at : ℕ) {xs : List ℕ} → xs ≡ take (place + len - place) (drop place source)
+    → put_mid at (at + len - at) out xs ≡ valued source place len out at
+laid-over source place len out at {xs} e =
+    let a : at + len - at ≡ len = omega arith in
+    let p : place + len - place ≡ len = omega arith in
+    rw (a, e, p, drop-drop len at out)
 
-pub length-group : (rows : List ℕ) (n count : ℕ) → is_group (number rows n 1) ≡ true → (x : ℕ) → x ≡ inside_in rows n count → x ≡ length_in rows n count
-length-group rows n count g x e = rw g e
+-- ---- one row
 
 pub length-value : (rows : List ℕ) (n count : ℕ) → is_group (number rows n 1) ≡ false → (x : ℕ) → x ≡ number rows n 4 → x ≡ length_in rows n count
 length-value rows n count g x e = rw g e
 
 module _ (rows : List ℕ) (n count : ℕ) (source : List ℕ) (own : Bool) (out : List ℕ) (at : ℕ) where
-  pub put-aside : (number rows n 5 ≡ 0 → ⊥) → PutRow rows n count source own out at at out
-  put-aside z = record { next = rw (ne_eqb (number rows n 5) 0 z) (sym (add-zero at)); left = rw (ne_eqb (number rows n 5) 0 z) (over_none out at) }
-
-  part-group : number rows n 5 ≡ 0 → is_group (number rows n 1) ≡ true → part_within rows n count source own ≡ head_octets (number rows n 1) (length_in rows n count) (last_in rows n source own)
-  part-group z g = rw (eq-eqb (number rows n 5) 0 z, g)
-
   part-value : number rows n 5 ≡ 0 → is_group (number rows n 1) ≡ false
       → part_within rows n count source own ≡ head_octets (number rows n 1) (length_in rows n count) (last_in rows n source own) ++ take (number rows n 4) (drop (number rows n 3) source)
   part-value z g = rw (eq-eqb (number rows n 5) 0 z, g)
-
-  pub put-group : number rows n 5 ≡ 0 → is_group (number rows n 1) ≡ true → (len end : ℕ) → len ≡ length_in rows n count → end ≡ last_in rows n source own
-      → (out' : List ℕ) → out' ≡ headed out at (number rows n 1) len end → PutRow rows n count source own out at (at + 4) out'
-  put-group z g len end e f out' h = record {
-    next = ap (λ (xs : List ℕ). at + length xs) (sym (part-group z g));
-    left = h ∙ rw (part-group z g, e, f);
-  }
 
   pub put-value : number rows n 5 ≡ 0 → is_group (number rows n 1) ≡ false → (len end place : ℕ) → len ≡ length_in rows n count → end ≡ last_in rows n source own → place ≡ number rows n 3
       → number rows n 3 + number rows n 4 ≤ length source → at + length (part_within rows n count source own) ≤ length out
@@ -89,28 +75,7 @@ module _ (rows : List ℕ) (n count : ℕ) (source : List ℕ) (own : Bool) (out
           → valued source place len out₁ to ≡ over out₂ to (take len' (drop place' source))
       same-value source place place' len len' out₁ out₂ to a c d s = rw (a, c, d, s)
 
-  pub put_heading : number rows n 5 ≡ 0 → PutsRow rows n count source own out at → (len : ℕ) → len ≡ length_in rows n count → Heading out at (number rows n 1) len
-  put_heading z p len e =
-      let a : 4 ≤ length (part_within rows n count source own) = least (is_group (number rows n 1)) refl in
-      record { room = omega (arith, p.room); typ_octet = p.fit.typ; two = omega (arith, p.fit.len, e) }
-    where
-      least : (g : Bool) → is_group (number rows n 1) ≡ g → 4 ≤ length (part_within rows n count source own)
-      least true g = omega (arith, ap length (part-group z g))
-      least false g = omega (arith, ap length (part-value z g))
-
-  pub put-valued : number rows n 5 ≡ 0 → is_group (number rows n 1) ≡ false → PutsRow rows n count source own out at → (len place : ℕ) → len ≡ length_in rows n count → place ≡ number rows n 3
-      → (out₁ : List ℕ) → length out₁ ≡ length out → Valued source place len out₁ (at + 4)
-  put-valued z g p len place e q out₁ s =
-      let l4 : len ≡ number rows n 4 = e ∙ rw g in
-      let there = p.fit.there g in
-      let vs : length (take (number rows n 4) (drop (number rows n 3) source)) ≡ number rows n 4 = length-take-le (number rows n 4) (drop (number rows n 3) source) (omega (arith, length-drop (number rows n 3) source)) in
-      let size : length (part_within rows n count source own) ≡ 4 + number rows n 4 = ap length (part-value z g) ∙ omega (arith, vs) in
-      record { there = omega (arith, there, l4, q); room = omega (arith, p.room, size, l4, s) }
-
 -- ---- row after row
-
-one_less : (n count : ℕ) → n < count → count - n ≡ suc (count - (n + 1))
-one_less n count l = omega arith
 
 module _ (rows : List ℕ) (count : ℕ) (source : List ℕ) (own : Bool) where
   parts_next : (n : ℕ) → n < count → parts_in rows count source own n (count - n) ≡ part_within rows n count source own ++ parts_in rows count source own (n + 1) (count - (n + 1))
@@ -131,11 +96,6 @@ module _ (rows : List ℕ) (count : ℕ) (source : List ℕ) (own : Bool) where
     pub whole : front ++ parts_in rows count source own n (count - n) ≡ parts_in rows count source own 0 count
 
   module _ (out₀ : List ℕ) (at : ℕ) where
-    pub put-begins : Putting out₀ at out₀ at 0
-    put-begins =
-        let e : count - 0 ≡ count = omega arith in
-        record { front = []; most = omega arith; long = refl; next = sym (add-zero at); left = over_none out₀ at; whole = rw e }
-
     module _ (p : PutsRows rows count source own out₀ at) where
       all-length : (out : List ℕ) (to n : ℕ) (s : Putting out₀ at out to n) → n < count
           → length s.front + length (part_within rows n count source own) ≤ length (parts_in rows count source own 0 count)
@@ -149,7 +109,7 @@ module _ (rows : List ℕ) (count : ℕ) (source : List ℕ) (own : Bool) where
           )
 
       pub put_asks : (out : List ℕ) (to n : ℕ) → Putting out₀ at out to n → n < count → PutsRow rows n count source own out to
-      put_asks out to n s l = record { has = p.has; one = l; fit = p.fits n l; room = omega (arith, s.next, s.long, all-length out to n s l, p.room) }
+      put_asks out to n s l = record { one = l; fit = p.fits n l; room = omega (arith, s.next, s.long, all-length out to n s l, p.room) }
 
       pub put-goes : (out : List ℕ) (to n : ℕ) → Putting out₀ at out to n → n < count → (to' : ℕ) (out' : List ℕ) → PutRow rows n count source own out to to' out' → length out' ≡ length out
           → Putting out₀ at out' to' (n + 1)

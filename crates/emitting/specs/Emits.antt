@@ -4,30 +4,42 @@ use Rattle.rules.specs.Sizes.{row_numbers}
 use Rattle.rules.specs.Types.{is_group}
 use Rattle.rules.specs.Standing.{kept}
 use Rattle.rules.specs.Emitting.{head_octets}
-
--- a number of 16 bits
-pub record Wide (x r : ℕ) : Type 0 where
-  pub is : r ≡ x
-  pub low : r < 65536
+use Rattle.emitting.specs.declared.Row.{Row}
+use Rattle.emitting.specs.declared.Fourth.{Fourth}
+use Rattle.emitting.specs.declared.Fourth.TheVariants.{Received, Instance}
 
 -- number c of row i
 abbrev pub number : List ℕ → ℕ → ℕ → ℕ
 number rows i c = get_or rows (row_numbers * i + c) 0
 
-abbrev pub HasRow : List ℕ → ℕ → Type 0
-HasRow rows n = row_numbers * n + row_numbers ≤ length rows
+pub record HasRow (rows : List ℕ) (n : ℕ) : Type 0 where
+  pub long : row_numbers * n + row_numbers ≤ length rows
+  pub few : n ≤ 65535
 
 pub record HasRows (rows : List ℕ) (count : ℕ) : Type 0 where
   pub long : row_numbers * count ≤ length rows
   pub few : count ≤ 65535
 
+abbrev pub row_at : List ℕ → ℕ → Row
+row_at rows n = record {
+  parent = number rows n 0;
+  typ = number rows n 1;
+  inst = number rows n 2;
+  place = number rows n 3;
+  len = number rows n 4;
+  stand = number rows n 5;
+}
+
 -- ---- sizes
 
-abbrev pub size_at_row : List ℕ → ℕ → ℕ
-size_at_row rows n = cond (eqb (number rows n 5) kept) (cond (is_group (number rows n 1)) 4 (4 + number rows n 4)) 0
+abbrev pub size_of_row : Row → ℕ
+size_of_row row = cond (eqb row.stand kept) (cond (is_group row.typ) 4 (4 + row.len)) 0
 
-pub record Sized (rows : List ℕ) (n r : ℕ) : Type 0 where
-  pub is : r ≡ size_at_row rows n
+abbrev pub size_at_row : List ℕ → ℕ → ℕ
+size_at_row rows n = size_of_row (row_at rows n)
+
+pub record Sized (row : Row) (r : ℕ) : Type 0 where
+  pub is : r ≡ size_of_row row
   pub low : r ≤ 65539
 
 -- k rows from j on
@@ -52,13 +64,20 @@ length_in rows n count = cond (is_group (number rows n 1)) (inside_in rows n cou
 
 -- ---- the parts of a row
 
-abbrev pub last_in : List ℕ → ℕ → List ℕ → Bool → ℕ
-last_in rows n source own = cond own (get_or source (number rows n 3 - 1) 0) (number rows n 2 % 256)
+-- whether the last octet of a header is the one that was received
+abbrev pub is_received : Fourth → Bool
+is_received Received = true
+is_received Instance = false
 
-pub record HasLast (rows : List ℕ) (n : ℕ) (source : List ℕ) (own : Bool) : Type 0 where
-  pub row : HasRow rows n
-  pub least : own ≡ true → 1 ≤ number rows n 3
-  pub most : own ≡ true → number rows n 3 ≤ length source
+abbrev pub fourth_of : Row → List ℕ → Bool → ℕ
+fourth_of row source own = cond own (get_or source (row.place - 1) 0) (row.inst % 256)
+
+pub record HasFourth (row : Row) (source : List ℕ) (own : Bool) : Type 0 where
+  pub least : own ≡ true → 1 ≤ row.place
+  pub most : own ≡ true → row.place ≤ length source
+
+abbrev pub last_in : List ℕ → ℕ → List ℕ → Bool → ℕ
+last_in rows n source own = fourth_of (row_at rows n) source own
 
 pub record Heading (out : List ℕ) (at typ len : ℕ) : Type 0 where
   pub room : at + 4 ≤ length out
@@ -67,10 +86,6 @@ pub record Heading (out : List ℕ) (at typ len : ℕ) : Type 0 where
 
 abbrev pub headed : List ℕ → ℕ → ℕ → ℕ → ℕ → List ℕ
 headed out at typ len end = take at out ++ (head_octets typ len end ++ drop (at + 4) out)
-
-pub record Valued (source : List ℕ) (place len : ℕ) (out : List ℕ) (at : ℕ) : Type 0 where
-  pub there : place + len ≤ length source
-  pub room : at + len ≤ length out
 
 abbrev pub valued : List ℕ → ℕ → ℕ → List ℕ → ℕ → List ℕ
 valued source place len out at = take at out ++ (take len (drop place source) ++ drop (at + len) out)
@@ -92,13 +107,12 @@ parts_in rows count source own n (suc k) = part_within rows n count source own +
 -- a row that can be written
 pub record RowFit (rows : List ℕ) (n count : ℕ) (source : List ℕ) (own : Bool) : Type 0 where
   pub typ : number rows n 1 < 256
-  pub len : length_in rows n count < 65536
+  pub len : number rows n 5 ≡ kept → length_in rows n count < 65536
   pub least : own ≡ true → 1 ≤ number rows n 3
   pub most : own ≡ true → number rows n 3 ≤ length source
   pub there : is_group (number rows n 1) ≡ false → number rows n 3 + number rows n 4 ≤ length source
 
 pub record PutsRow (rows : List ℕ) (n count : ℕ) (source : List ℕ) (own : Bool) (out : List ℕ) (at : ℕ) : Type 0 where
-  pub has : HasRows rows count
   pub one : n < count
   pub fit : RowFit rows n count source own
   pub room : at + length (part_within rows n count source own) ≤ length out
@@ -111,7 +125,6 @@ pub record PutRow (rows : List ℕ) (n count : ℕ) (source : List ℕ) (own : B
   pub left : out' ≡ over out at (part_within rows n count source own)
 
 pub record PutsRows (rows : List ℕ) (count : ℕ) (source : List ℕ) (own : Bool) (out : List ℕ) (at : ℕ) : Type 0 where
-  pub has : HasRows rows count
   pub fits : (n : ℕ) → n < count → RowFit rows n count source own
   pub room : at + length (parts_in rows count source own 0 count) ≤ length out
 

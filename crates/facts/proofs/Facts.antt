@@ -80,8 +80,8 @@ unparted_is t f e = ap (λ (x : ℕ). by_range t (below79 t) x (above95 t)) (go 
     go false false true z = let y : ◌≡◌ {A = ℕ} 0 1 = cc in absurd (omega arith)
     go false false false z = refl
 
-pub least-is : (t f : ℕ) → t < 256 → least_by t f ≡ least_of t f
-least-is t f h = go (is_parted t) refl
+pub least_is : (t f : ℕ) → t < 256 → least_by t f ≡ least_of t f
+least_is t f h = go (is_parted t) refl
   where
     go : (c : Bool) → is_parted t ≡ c → least_by t f ≡ least_of t f
     go true e = parted-is t f e

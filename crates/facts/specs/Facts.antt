@@ -3,6 +3,8 @@ use Rattle.std.specs.Prelude.{◌≡◌, Bool, cond, ◌&&◌, ◌||◌, List, [
 use Rattle.rules.specs.Types.{least_of, is_group, covers_whole, covers_rest}
 use Rattle.rules.specs.Standing.{kept, short}
 use Rattle.rules.specs.Covered.{is_aside}
+use Rattle.facts.specs.declared.Entry.{Entry}
+use Rattle.facts.specs.declared.Entry.TheVariants.{Nothing, Whole, Rest, Group}
 
 -- ---- least lengths
 
@@ -43,6 +45,13 @@ octets_from t (suc n) = octet_of t ∷ octets_from (t + 4) n
 
 unfoldable pub facts : List ℕ
 facts = octets_from 0 64
+
+-- the number of a mark
+abbrev pub number_of : Entry → ℕ
+number_of Nothing = 0
+number_of Whole = 1
+number_of Rest = 2
+number_of Group = 3
 
 -- the mark of a place in an octet
 unfoldable pub mark_at : ℕ → ℕ → ℕ

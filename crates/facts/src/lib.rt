@@ -4,9 +4,9 @@
 
 ghost use Rattle.std.specs.Prelude.{◌≡◌};
 ghost use Rattle.rules.specs.Types.{least_of};
-ghost use Rattle.facts.specs.Facts.{facts, Figure, Takes, below79, between, above95, least_by, mark_in, group_in, open_in};
+ghost use Rattle.facts.specs.Facts.{facts, Figure, Takes, below79, between, above95, least_by, number_of, mark_in, group_in, open_in};
 
-const FACTS: [u8; 64] = [
+static FACTS: [u8; 64] = [
     4, // 1
     0, 0, 0, 0, 0, 0, 0, 0, 0, 0, 0, 0, 0, 0, 0, 0, 0, 80, // 74, 75
     145, // 76, 78, 79
@@ -19,24 +19,30 @@ const FACTS: [u8; 64] = [
     0, 0, 0, 0, 0, 0, 0, 0, 0, 0, 0, 0, 0, 0, 0, 0, 0, 64, // 255
 ];
 
-// A constant is laid down anew at each use: a caller takes the table once, and lends it.
-pub fn table() -> [u8; 64]
-    ensures { result ≡ facts }
+pub fn table() -> &'static [u8; 64]
+    ensures { result.now ≡ facts }
 {
-    FACTS
+    &FACTS
+}
+
+// What the table has of a type.
+#[derive(Clone, Copy)]
+pub(crate) enum Entry {
+    Nothing,
+    Whole, // covered whole
+    Rest, // covered but for the first octet
+    Group,
 }
 
 // What a part takes if it is there.
 pub(crate) fn part(there: bool, size: usize) -> usize
     ensures { Takes there size result }
 {
-    if there {
-        return size;
-    }
-    0
+    if there { size } else { 0 }
 }
 
 // F-TEID: an IPv4 and an IPv6 address.
+#[tactic(auto, using(crate::proofs::Facts::sum_87))]
 pub(crate) fn of_87(first: u8) -> usize
     ensures { Figure (least_of 87 first) result }
 {
@@ -44,6 +50,7 @@ pub(crate) fn of_87(first: u8) -> usize
 }
 
 // PDN Address Allocation: IPv4, IPv6 or both.
+#[tactic(auto, using(crate::proofs::Facts::sum_79))]
 pub(crate) fn of_79(first: u8) -> usize
     ensures { Figure (least_of 79 first) result }
 {
@@ -52,6 +59,7 @@ pub(crate) fn of_79(first: u8) -> usize
 }
 
 // User Location: CGI, SAI, RAI, then TAI, ECGI, LAI.
+#[tactic(auto, using(crate::proofs::Facts::sum_86))]
 pub(crate) fn of_86(first: u8) -> usize
     ensures { Figure (least_of 86 first) result }
 {
@@ -63,130 +71,96 @@ pub(crate) fn of_86(first: u8) -> usize
 }
 
 // Types 0 to 78.
+#[tactic(auto, unfolding(crate::specs::Facts::below79))]
 pub(crate) fn below_79(typ: u8) -> usize
     ensures { Figure (below79 typ) result }
 {
-    if typ == 72 {
-        return 8;
+    match typ {
+        72 => 8,
+        2 => 2,
+        74 => 4,
+        _ => 1,
     }
-    if typ == 2 {
-        return 2;
-    }
-    if typ == 74 {
-        return 4;
-    }
-    1
 }
 
 // Types 80 to 95 that no first octet tells of.
+#[tactic(auto, unfolding(crate::specs::Facts::between))]
 pub(crate) fn between(typ: u8) -> usize
     ensures { Figure (between typ) result }
 {
-    if typ == 93 {
-        return 0;
+    match typ {
+        93 => 0,
+        80 => 22,
+        81 => 21,
+        83 => 3,
+        94 => 4,
+        95 => 2,
+        _ => 1,
     }
-    if typ == 80 {
-        return 22;
-    }
-    if typ == 81 {
-        return 21;
-    }
-    if typ == 83 {
-        return 3;
-    }
-    if typ == 94 {
-        return 4;
-    }
-    if typ == 95 {
-        return 2;
-    }
-    1
 }
 
 // Types 96 to 255.
+#[tactic(auto, unfolding(crate::specs::Facts::above95))]
 pub(crate) fn above_95(typ: u8) -> usize
     ensures { Figure (above95 typ) result }
 {
-    if typ == 180 {
-        return 0;
+    match typ {
+        109 | 180 => 0,
+        170 | 183 => 4,
+        114 | 255 => 2,
+        _ => 1,
     }
-    if typ == 109 {
-        return 0;
-    }
-    if typ == 183 {
-        return 4;
-    }
-    if typ == 170 {
-        return 4;
-    }
-    if typ == 114 {
-        return 2;
-    }
-    if typ == 255 {
-        return 2;
-    }
-    1
 }
 
 // The least length of a value of the type whose first octet is `first`.
+#[tactic(auto, unfolding(crate::specs::Facts::by_range, crate::specs::Facts::least_by))]
 pub fn least(typ: u8, first: u8) -> usize
     ensures { Figure (least_by typ first) result }
 {
-    if typ < 79 {
-        return below_79(typ);
+    match typ {
+        79 => of_79(first),
+        86 => of_86(first),
+        87 => of_87(first),
+        0..=78 => below_79(typ),
+        80..=95 => between(typ),
+        _ => above_95(typ),
     }
-    if 95 < typ {
-        return above_95(typ);
-    }
-    if typ == 87 {
-        return of_87(first);
-    }
-    if typ == 86 {
-        return of_86(first);
-    }
-    if typ == 79 {
-        return of_79(first);
-    }
-    between(typ)
 }
 
 // A type's mark in the table.
-pub(crate) fn mark(facts: &[u8; 64], typ: u8) -> u8
-    ensures { result ≡ mark_in facts.now typ }
+#[tactic(auto, unfolding(crate::specs::Facts::mark_at, crate::specs::Facts::mark_in))]
+pub(crate) fn mark(facts: &[u8; 64], typ: u8) -> Entry
+    ensures { number_of result ≡ mark_in facts.now typ }
 {
-    let four = facts[(typ / 4) as usize];
-    (four >> (2 * (typ % 4))) % 4
+    let four = facts[usize::from(typ / 4)];
+    match (four >> (2 * (typ % 4))) % 4 {
+        0 => Entry::Nothing,
+        1 => Entry::Whole,
+        2 => Entry::Rest,
+        _ => Entry::Group,
+    }
 }
 
+// Is the type a group? The table is lent, since this says it of any table.
+#[tactic(auto, unfolding(crate::specs::Facts::group_in))]
 pub fn group(facts: &[u8; 64], typ: u8) -> bool
     ensures { result ≡ group_in facts.now typ }
 {
-    mark(facts, typ) == 3
+    matches!(mark(facts, typ), Entry::Group)
 }
 
-// How many leading octets of a value of `len` octets are left open: none if it is set aside.
+// How many leading octets of a value of `len` octets are left open: none if it is set aside. A standing is a row's sixth number, and may be any.
+#[tactic(auto, unfolding(crate::specs::Facts::open_in))]
 pub fn open_octets(facts: &[u8; 64], typ: u8, stand: u16, len: usize) -> usize
     ensures { result ≡ open_in facts.now typ stand len }
 {
-    if stand == 1 {
+    if stand == 1 || stand == 2 {
         return 0;
     }
-    if stand == 2 {
-        return 0;
+    match mark(facts, typ) {
+        Entry::Whole => 0,
+        // 79 and 86 keep their first octet, where they are kept or short.
+        Entry::Rest if stand < 4 => len.min(1),
+        _ => len,
     }
-    let by_type = mark(facts, typ);
-    if by_type == 1 {
-        return 0;
-    }
-    if by_type != 2 {
-        return len;
-    }
-    // 79 and 86 keep their first octet, where they are kept or short.
-    if len == 0 {
-        return 0;
-    }
-    if stand < 4 {
-        return 1;
-    }
-    len
 }

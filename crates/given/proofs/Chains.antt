@@ -1,29 +1,23 @@
 -- The open groups are the chain of parents of the innermost one: who climbs it finds a parent exactly where it is open, and each row leaves such a chain. Assumes nothing.
 --     Reaches, climb-begins, climb-goes, climb-ends    the climb
 --     Checking, check-begins, check-goes, check-ends   row after row
-use mathlib.Core.Path.{◌≡◌, refl, sym, ap, ◌∙◌}
+use mathlib.Core.Path.{◌≡◌, refl, sym, ◌∙◌}
 use mathlib.Core.Bool.{Bool, true, false, cond, ◌&&◌}
 use mathlib.Core.List.{List, [], ◌∷◌}
-use Prim.Native.Nat.{ℕ, suc, ◌+◌, ◌-◌, ◌*◌, ◌≤◌, ◌<◌}
+use Prim.Native.Nat.{ℕ, suc, ◌+◌, ◌-◌, ◌≤◌, ◌<◌}
 use native.Mathlib.Omega.{arith}
 use native.Mathlib.Decide.{ℕ_discrete}
 use borrow.Author.Tests.{eq-eqb, ne_eqb}
 use lib.Dec.{eqb}
-use lib.ListN.{get_or}
-use Rattle.rules.specs.Sizes.{used}
 use Rattle.rules.specs.Types.{among, is_group}
 use Rattle.rules.specs.Values.{row_parent, row_type}
 use Rattle.rules.specs.Emitting.{Piece}
 use Rattle.rules.specs.Built.{since, next_open, depth_first, given, givens}
 use Rattle.rules.proofs.Reasons.{RowRight}
 use Rattle.emitted.proofs.Parsing.{since-own, since-other, deep_more, deep_nil}
-use Rattle.given.specs.Given.{Chain, root, link, Climbed, Climbs, HasCells, RowsRight, opened}
+use Rattle.given.specs.Given.{Chain, root, link, Climbed, Climbs, RowsRight}
 
 -- ---- the climb
-
--- the parent that the table says of row number a, counted from 1
-parent-at : (t : List ℕ) (a : ℕ) → 0 < a → get_or t (6 * a) 0 ≡ row_parent t (a - 1)
-parent-at t a l = let e : 6 * a ≡ used (a - 1) + 0 = omega arith in rw e
 
 -- a path that shows the parent as the path p does
 pub record Reaches (t : List ℕ) (a parent : ℕ) (p : List ℕ) : Type 0 where
@@ -52,16 +46,15 @@ module _ {t : List ℕ} {inner parent a : ℕ} (s : Climbing t inner parent a) w
   falls : Climbs t inner → parent < a → row_parent t (a - 1) < a
   falls p l = let r = s.reaches p.path p.chain in (up t a parent p.path r.path l r.chain r.there r.open_since).0
 
-  pub climb-less : Climbs t inner → parent < a → (x : ℕ) → x ≡ get_or t (6 * a) 0 → x < a
-  climb-less p l x e = omega (arith, e, parent-at t a (omega arith), falls p l)
+  pub climb-less : Climbs t inner → parent < a → (x : ℕ) → x ≡ row_parent t (a - 1) → x < a
+  climb-less p l x e = omega (arith, e, falls p l)
 
-  pub climb-goes : Climbs t inner → parent < a → (x : ℕ) → x ≡ get_or t (6 * a) 0 → Climbing t inner parent x
+  pub climb-goes : Climbs t inner → parent < a → (x : ℕ) → x ≡ row_parent t (a - 1) → Climbing t inner parent x
   climb-goes q l x e = record {
     low = omega (arith, climb-less q l x e, s.low);
     reaches = λ p c.
         let r = s.reaches p c in
-        let z : x ≡ row_parent t (a - 1) = e ∙ parent-at t a (omega arith) in
-        rw z (up t a parent p r.path l r.chain r.there r.open_since).1;
+        rw e (up t a parent p r.path l r.chain r.there r.open_since).1;
   }
 
 -- what stands on a chain is no later than its first
@@ -85,6 +78,10 @@ climb-ends {t} {inner} {parent} {a} s l = record {
 }
 
 -- ---- row after row
+
+-- the innermost open group after row n, which has this parent
+abbrev pub opened : List ℕ → ℕ → ℕ → ℕ
+opened t n parent = cond (is_group (row_type t n)) (n + 1) parent
 
 pub record Checking (t values : List ℕ) (count inner n : ℕ) : Type 0 where
   pub most : n ≤ count
@@ -153,12 +150,8 @@ module _ {t values : List ℕ} {count inner n : ℕ} (s : Checking t values coun
   pub row-wrong : (RowRight t values n → ⊥) → RowsRight t values count → ⊥
   row-wrong f w = f (w.each n l)
 
-  -- the first number of the row
-  parent_of : (p : ℕ) → p ≡ get_or t (6 + 6 * n) 0 → p ≡ row_parent t n
-  parent_of p e = let f : 6 + 6 * n ≡ used n + 0 = omega arith in e ∙ ap (λ (i : ℕ). get_or t i 0) f
-
-  pub check-goes : RowRight t values n → (p r : ℕ) → p ≡ get_or t (6 + 6 * n) 0 → Climbed t inner p r → r ≡ p → (x : ℕ) → x ≡ opened t n p → Checking t values count x (n + 1)
-  check-goes w p r q c e x o = let f = parent_of p q in rw (o, f) (check-own w r (rw f at c) (e ∙ f))
+  pub check-goes : RowRight t values n → (p r : ℕ) → p ≡ row_parent t n → Climbed t inner p r → r ≡ p → (x : ℕ) → x ≡ opened t n p → Checking t values count x (n + 1)
+  check-goes w p r q c e x o = rw (o, q) (check-own w r (rw q at c) (e ∙ q))
 
   own-wrong : (r : ℕ) → Climbed t inner (row_parent t n) r → (r ≡ row_parent t n → ⊥) → RowsRight t values count → ⊥
   own-wrong r c e w =
@@ -167,11 +160,8 @@ module _ {t values : List ℕ} {count inner n : ℕ} (s : Checking t values coun
       let y : ◌≡◌ {A = ℕ} 0 1 = cc in
       omega arith
 
-  pub parent-wrong : (p r : ℕ) → p ≡ get_or t (6 + 6 * n) 0 → Climbed t inner p r → (r ≡ p → ⊥) → RowsRight t values count → ⊥
-  parent-wrong p r q c e = let f = parent_of p q in own-wrong r (rw f at c) (λ z. e (z ∙ sym f))
-
-  pub climbs : HasCells t count → Climbs t inner
-  climbs h = record { has = record { long = omega (arith, h.long, s.low); few = omega (arith, h.few, s.low) }; path = s.path; chain = s.chain }
+  pub parent-wrong : (p r : ℕ) → p ≡ row_parent t n → Climbed t inner p r → (r ≡ p → ⊥) → RowsRight t values count → ⊥
+  parent-wrong p r q c e = own-wrong r (rw q at c) (λ z. e (z ∙ sym q))
 
 pub check-ends : {t values : List ℕ} {count inner n : ℕ} → Checking t values count inner n → count ≤ n → RowsRight t values count
 unfolding givens

@@ -1,15 +1,12 @@
--- What the tests of a table ask and tell, by its numbers, which stand in a run of numbers and in octets after those. Assumes nothing.
-use Rattle.std.specs.Prelude.{◌≡◌, Bool, true, false, cond, List, [], ◌∷◌, ◌++◌, ℕ, ◌+◌, ◌≤◌, ◌<◌, length, get_or}
+-- What the tests of a table ask and tell, by its numbers. Assumes nothing.
+use Rattle.std.specs.Prelude.{◌≡◌, Bool, true, false, List, [], ◌∷◌, ℕ, ◌+◌, ◌≤◌, ◌<◌, length, get_or}
 use Rattle.rules.specs.Sizes.{header_numbers, used}
 use Rattle.rules.specs.Types.{among, is_group}
-use Rattle.rules.specs.Octets.{numbers_in}
-use Rattle.rules.specs.Values.{row_count, row_parent, row_type}
+use Rattle.rules.specs.Standing.{kept}
+use Rattle.rules.specs.Values.{row_count, row_parent, row_type, row_instance, row_place, row_length, row_standing}
 use Rattle.rules.specs.Built.{since, depth_first, givens}
 use Rattle.rules.proofs.Reasons.{RowRight}
-
--- the numbers of a table: one that is lent as numbers has no octets after them, and one that is lent as octets no numbers before
-unfoldable pub table_in : List ℕ → List ℕ → List ℕ
-table_in numbers octets = numbers ++ numbers_in octets
+use Rattle.emitting.specs.declared.Row.{Row}
 
 -- a test tells whether something holds
 pub record Told (P : Type 0) (r : Bool) : Type 0 where
@@ -32,6 +29,24 @@ pub record HasCell (t : List ℕ) (n : ℕ) : Type 0 where
   pub long : used n + 6 ≤ length t
   pub few : n ≤ 65535
 
+-- row n, by its numbers' names
+abbrev pub row_in : List ℕ → ℕ → Row
+row_in t n = record {
+  parent = row_parent t n;
+  typ = row_type t n;
+  inst = row_instance t n;
+  place = row_place t n;
+  len = row_length t n;
+  stand = row_standing t n;
+}
+
+-- a row is right, but for its parent
+pub record FitRow (row : Row) (values : List ℕ) : Type 0 where
+  pub stand : row.stand ≡ kept
+  pub typ : row.typ ≤ 255
+  pub inst : row.inst ≤ 15
+  pub there : is_group row.typ ≡ false → row.place + row.len ≤ length values
+
 pub record RowsRight (t values : List ℕ) (count : ℕ) : Type 0 where
   pub each : (r : ℕ) → r < count → RowRight t values r
   pub deep : depth_first (0 ∷ []) 0 (givens t values 0 count) ≡ true
@@ -53,16 +68,3 @@ pub record Climbed (t : List ℕ) (inner parent r : ℕ) : Type 0 where
   pub low : r ≤ inner
   pub found : r ≡ parent → (path : List ℕ) → Chain t inner path → (among parent path ≡ true) × Chain t parent (since parent path)
   pub lost : (r ≡ parent → ⊥) → (path : List ℕ) → Chain t inner path → among parent path ≡ false
-
--- the innermost open group after row n, which has this parent
-abbrev pub opened : List ℕ → ℕ → ℕ → ℕ
-opened t n parent = cond (is_group (row_type t n)) (n + 1) parent
-
--- the rows of a table of octets, read into a run of numbers
-pub record Copies (count : ℕ) (t rows : List ℕ) : Type 0 where
-  pub there : header_numbers + count ≤ length t
-  pub room : count ≤ length rows
-
-pub record Copied (count : ℕ) (t rows rows' : List ℕ) : Type 0 where
-  pub size : length rows' ≡ length rows
-  pub each : (j : ℕ) → j < count → get_or rows' j 0 ≡ get_or t (header_numbers + j) 0

@@ -1,15 +1,14 @@
 -- Laws of any messages: how a search by their types goes on, and what a table says of one. Assumes nothing.
-use mathlib.Core.Path.{◌≡◌, refl, sym, ◌∙◌}
+use mathlib.Core.Path.{◌≡◌, refl, sym, ap, ◌∙◌}
 use mathlib.Core.Bool.{Bool, true, false, cond, not, ◌&&◌}
 use mathlib.Core.List.{List, [], ◌∷◌, map}
 use Prim.Native.Nat.{ℕ, zero, suc, ◌≤◌, ◌<◌}
 use native.Mathlib.Nat.{pos_of_ne-zero}
 use native.Mathlib.Omega.{arith}
-use native.Mathlib.Decide.{dec_lt}
-use borrow.Author.Tests.{eq-eqb, ne_eqb, ltb-true, lt-ltb, le-ltb, eqb-false, not-true}
+use native.Mathlib.Decide.{dec_lt, ℕ_discrete}
+use borrow.Author.Tests.{ne_eqb, ltb-true, lt-ltb, le-ltb, eqb-false, not-true}
 use lib.Dec.{eqb, ltb}
-use lib.ListN.{length, get_or, drop, get_or-map}
-use lib.Seq.{drop-cons}
+use lib.ListN.{length, get_or, get_or-map}
 use Rattle.rules.specs.Framing.{flag_t, header_length}
 use Rattle.rules.specs.Types.{among}
 use Rattle.rules.specs.Listings.{Message, no_message, messages, book, seek_message, is_message, message_of}
@@ -17,49 +16,44 @@ use Rattle.rules.specs.Sound.{every_level, every_message, sound}
 use Rattle.rules.proofs.Lines.{and_left, and_right}
 use Rattle.rules.proofs.Header.{Passed}
 use Rattle.rules.proofs.Book.{book-sound}
-use Rattle.heading.specs.Header.{Listed, HeaderOf}
+use Rattle.std.specs.List.{find}
+use Rattle.std.specs.Option.{MatchOption, option_map}
+use Rattle.std.specs.Prelude.{Option, None, Some}
+use Rattle.std.specs.Borrow.{Bor}
+use Rattle.std.proofs.lemmas.Option.{MatchOption-at_none, MatchOption-at_some}
+use Rattle.heading.specs.declared.Handled.{Handled}
+use Rattle.heading.specs.Header.{Listed, Sought, handled_of, sent_by}
 
-module _ (xs : List Message) where
-  abbrev pub types_of : List ℕ
-  types_of = map (λ (x : Message). x.typ) xs
+-- the table has what the messages say
+further : (m : Option Handled) (a n : ℕ) (P : Handled → Type 0) → MatchOption m (a ≡ n) (λ h. (a < n) × P h) → MatchOption m (suc a ≡ suc n) (λ h. (suc a < suc n) × P h)
+further None a n P e = ap suc e
+further (Some h) a n P f = (omega (arith, f.0), f.1)
 
-  abbrev pub teids_of : List Bool
-  teids_of = map (λ (x : Message). x.teid) xs
+-- of messages xs: what the table finds of the type t
+abbrev pub Finds : List Message → ℕ → Type 0
+Finds xs t = MatchOption (find (λ (h : Handled). eqb h.typ t) (map handled_of xs))
+    (seek_message xs t ≡ length xs)
+    (λ h. (seek_message xs t < length xs) × (h ≡ handled_of (get_or xs (seek_message xs t) no_message)))
 
-  abbrev pub sent_on : ℕ → List Bool
-  sent_on k = map (λ (x : Message). among k x.kinds) xs
-
-  abbrev pub bodies_of : List ℕ
-  bodies_of = map (λ (x : Message). x.body) xs
-
-pub typ-at : (xs : List Message) (n : ℕ) → get_or (types_of xs) n 0 ≡ (get_or xs n no_message).typ
-typ-at xs n = get_or-map (λ (x : Message). x.typ) xs n no_message
-
-pub teid-at : (xs : List Message) (n : ℕ) → get_or (teids_of xs) n false ≡ (get_or xs n no_message).teid
-teid-at xs n = get_or-map (λ (x : Message). x.teid) xs n no_message
-
-pub sent-at : (k : ℕ) (xs : List Message) (n : ℕ) → get_or (sent_on xs k) n false ≡ among k (get_or xs n no_message).kinds
-sent-at k xs n = get_or-map (λ (x : Message). among k x.kinds) xs n no_message
-
-pub body_at : (xs : List Message) (n : ℕ) → get_or (bodies_of xs) n 0 ≡ (get_or xs n no_message).body
-body_at xs n = get_or-map (λ (x : Message). x.body) xs n no_message
-
--- ---- a search, from message n on
-
-module _ (xs : List Message) (n t : ℕ) (h : n < length xs) where
-  pub message-found : get_or (types_of xs) n 0 ≡ t → seek_message (drop n xs) t ≡ 0
-  unfolding seek_message
-  message-found e = rw (drop-cons xs n no_message h, eq-eqb (get_or xs n no_message).typ t (sym (typ-at xs n) ∙ e))
-
-  pub message-passed : (get_or (types_of xs) n 0 ≡ t → ⊥) → seek_message (drop n xs) t ≡ suc (seek_message (drop (suc n) xs) t)
-  unfolding seek_message
-  message-passed e = rw (drop-cons xs n no_message h, ne_eqb (get_or xs n no_message).typ t (λ w. e (typ-at xs n ∙ w)))
+pub find_message : (xs : List Message) (t : ℕ) → Finds xs t
+unfolding seek_message
+find_message [] t = refl
+find_message (x ∷ xs) t = go (eqb x.typ t) refl (find_message xs t)
+  where
+    go : (b : Bool) → eqb x.typ t ≡ b → Finds xs t → Finds (x ∷ xs) t
+    go true e f = rw e (omega arith, refl)
+    go false e f = rw e (further (find (λ (h : Handled). eqb h.typ t) (map handled_of xs)) (seek_message xs t) (length xs) (λ h. h ≡ handled_of (get_or xs (seek_message xs t) no_message)) f)
 
 -- ---- these messages
 
-pub count : length book.messages ≡ 10
-unfolding book messages
-count = refl
+pub sought_from_find : (t : ℕ) (r : Option (Bor Handled)) → option_map (λ (b : Bor Handled). b.now) r ≡ find (λ (h : Handled). eqb h.typ t) (map handled_of book.messages) → Sought t r
+unfolding is_message message_of
+sought_from_find t None e =
+    let f = MatchOption-at_none _ _ (sym e) (find_message book.messages t) in
+    le-ltb (seek_message book.messages t) (length book.messages) (omega (arith, f))
+sought_from_find t (Some h) e =
+    let f = MatchOption-at_some _ _ h.now (sym e) (find_message book.messages t) in
+    (lt-ltb (seek_message book.messages t) (length book.messages) f.0, f.1)
 
 -- a type that is listed has a number
 pub listed-low : (t : ℕ) → is_message book t ≡ true → seek_message book.messages t < length book.messages
@@ -100,7 +94,30 @@ body-level n h =
       low = ltb-true v (length book.levels) (and_right (not (eqb v 0)) _ e);
     }
 
--- ---- the header of a type
+pub has_body : (t : ℕ) → is_message book t ≡ true → IsLevel (message_of book t).body
+unfolding message_of
+has_body t e = body-level (seek_message book.messages t) (listed-low t e)
+
+-- ---- kinds 1 to 3 have the same messages
+
+kind_at : (k : ℕ) (xs : List Message) (n : ℕ) → get_or (map (λ (x : Message). among k x.kinds) xs) n false ≡ among k (get_or xs n no_message).kinds
+kind_at k xs n = get_or-map (λ (x : Message). among k x.kinds) xs n no_message
+
+pub by_kind : (k t : ℕ) → among k book.kinds ≡ true → sent_by (handled_of (message_of book t)) k ≡ among k (message_of book t).kinds
+unfolding book messages message_of
+by_kind k t e = go (ℕ_discrete k 1) (ℕ_discrete k 2) (ℕ_discrete k 3) (ℕ_discrete k 4)
+  where
+    n : ℕ
+    n = seek_message messages t
+
+    go : Dec (k ≡ 1) → Dec (k ≡ 2) → Dec (k ≡ 3) → Dec (k ≡ 4) → sent_by (handled_of (get_or messages n no_message)) k ≡ among k (get_or messages n no_message).kinds
+    go (yes p) q r s = rw p
+    go (no p) (yes q) r s = rw q (sym (kind_at 1 messages n) ∙ kind_at 2 messages n)
+    go (no p) (no q) (yes r) s = rw r (sym (kind_at 1 messages n) ∙ kind_at 3 messages n)
+    go (no p) (no q) (no r) (yes s) = rw s
+    go (no p) (no q) (no r) (no s) = let z : false ≡ true = rw (ne_eqb k 1 p, ne_eqb k 2 q, ne_eqb k 3 r, ne_eqb k 4 s) at e in absurd (cc)
+
+-- ---- types
 
 -- every type is an octet, so no larger number is one
 low_types : List Message → Bool
@@ -118,25 +135,14 @@ low-types : low_types book.messages ≡ true
 unfolding low_types book messages
 low-types = refl
 
-pub header-none : (t : ℕ) → length book.messages ≤ seek_message book.messages t → HeaderOf t 0
+pub no_octet : (t : ℕ) → 255 < t → is_message book t ≡ false
 unfolding is_message
-header-none t l = record { is = rw (le-ltb (seek_message book.messages t) (length book.messages) l); most = omega arith }
-
-pub header-high : (t : ℕ) → 255 < t → HeaderOf t 0
-header-high t h = header-none t (omega (arith, none-high book.messages t low-types h))
-
-pub header_at : (t n : ℕ) → n ≡ seek_message book.messages t → n < length book.messages → (c : Bool) → get_or (teids_of book.messages) n false ≡ c → HeaderOf t (cond c 12 8)
-unfolding is_message message_of
-header_at t n e l c f = record { is = rw (← e, lt-ltb n (length book.messages) l, ← teid-at book.messages n, f); most = go c }
-  where
-    go : (c : Bool) → cond c 12 8 ≤ 12
-    go true = omega arith
-    go false = omega arith
+no_octet t h = le-ltb (seek_message book.messages t) (length book.messages) (omega (arith, none-high book.messages t low-types h))
 
 -- so a type that is listed is an octet
-pub listed-octet : (t : ℕ) → is_message book t ≡ true → t < 256
+pub listed_octet : (t : ℕ) → is_message book t ≡ true → t < 256
 unfolding is_message
-listed-octet t e = go (dec_lt 255 t)
+listed_octet t e = go (dec_lt 255 t)
   where
     go : Dec (255 < t) → t < 256
     go (yes h) = absurd (omega (arith, none-high book.messages t low-types h, ltb-true (seek_message book.messages t) (length book.messages) e))

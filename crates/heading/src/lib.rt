@@ -3,54 +3,59 @@
 // here may ask for what its callers show.
 #![tactic(auto)]
 
-ghost use Rattle.std.specs.Prelude.{◌≡◌, ◌<◌, ◌≤◌, length, get_or};
+ghost use Rattle.std.specs.Prelude.{◌≡◌, ◌<◌, ◌≤◌, length};
 ghost use Rattle.std.specs.Bool.{beq};
 ghost use Rattle.rules.specs.Framing.{version, flag_p, flag_t};
 ghost use Rattle.rules.specs.Types.{among};
-ghost use Rattle.rules.specs.Listings.{book, no_message, message_of};
+ghost use Rattle.rules.specs.Listings.{book, message_of};
 ghost use Rattle.rules.specs.Verdicts.{first, opening_checks};
-ghost use Rattle.heading.specs.Header.{Opens, Sought, Sent, Known, Typed, Field, Start, Listed, Body, HeaderOf};
+ghost use Rattle.answers.specs.Refusals.{told};
+ghost use Rattle.heading.specs.Header.{Opens, Known, Field, Start, Listed, Body, HeaderOf, Sought, sent_by};
 
-use rules::Verdict;
+use answers::Refusal;
 
-// The message types, which of them have T = 1, which are sent on kinds 1 to 3, which on kind 4, and the level of each body.
-const TYPES: [u8; 10] = [1, 2, 32, 37, 66, 67, 68, 69, 97, 131];
+// What the rules say of a message type: has it T = 1, is it sent on kinds 1 to 3, and on kind 4, and the level of its body.
+pub(crate) struct Handled {
+    typ: u8,
+    teid: bool,
+    gateways: bool,
+    mmes: bool,
+    body: u8,
+}
 
-const TEIDS: [bool; 10] = [false, false, true, true, true, true, true, true, true, true];
-
-const GATEWAYS: [bool; 10] = [true, true, true, true, true, true, true, true, true, false];
-
-const MMES: [bool; 10] = [
-    true, // 1 Echo Request
-    true, // 2 Echo Response
-    false, // 32
-    false, // 37
-    false, // 66
-    false, // 67
-    false, // 68
-    false, // 69
-    false, // 97
-    true, // 131 Context Response
+// A line a type, which the formatter would make seven.
+#[rattlefmt::skip]
+static HANDLED: [Handled; 10] = [
+    Handled { typ: 1, teid: false, gateways: true, mmes: true, body: 1 }, // Echo Request
+    Handled { typ: 2, teid: false, gateways: true, mmes: true, body: 1 }, // Echo Response
+    Handled { typ: 32, teid: true, gateways: true, mmes: false, body: 2 },
+    Handled { typ: 37, teid: true, gateways: true, mmes: false, body: 5 },
+    Handled { typ: 66, teid: true, gateways: true, mmes: false, body: 6 },
+    Handled { typ: 67, teid: true, gateways: true, mmes: false, body: 9 },
+    Handled { typ: 68, teid: true, gateways: true, mmes: false, body: 12 },
+    Handled { typ: 69, teid: true, gateways: true, mmes: false, body: 13 },
+    Handled { typ: 97, teid: true, gateways: true, mmes: false, body: 14 },
+    Handled { typ: 131, teid: true, gateways: false, mmes: true, body: 16 }, // Context Response
 ];
 
-const BODIES: [u8; 10] = [1, 1, 2, 5, 6, 9, 12, 13, 14, 16];
+impl Handled {
+    // A kind is a number, since C lends any.
+    fn is_sent_on(&self, kind: u32) -> bool
+        ensures { result ≡ sent_by self.now kind }
+    {
+        if kind == 4 { self.mmes } else { self.gateways }
+    }
+}
 
-// Is it one of the kinds?
+// Is it one of the kinds, which are numbers as C lends them?
+#[tactic(auto, unfolding(rules::specs::Listings::book))]
 pub fn known(kind: u32) -> bool
     ensures { result ≡ among kind book.kinds }
 {
-    if kind == 1 {
-        return true;
-    }
-    if kind == 2 {
-        return true;
-    }
-    if kind == 3 {
-        return true;
-    }
-    kind == 4
+    matches!(kind, 1..=4)
 }
 
+#[tactic(auto, unfolding(rules::specs::Framing::version))]
 pub(crate) fn version(head: &[u8]) -> u8
     requires { 0 < length head.now }
     ensures { result ≡ version head.now }
@@ -58,6 +63,7 @@ pub(crate) fn version(head: &[u8]) -> u8
     head[0] / 32
 }
 
+#[tactic(auto, unfolding(rules::specs::Framing::flag_p))]
 pub(crate) fn flag_p(head: &[u8]) -> bool
     requires { 0 < length head.now }
     ensures { result ≡ flag_p head.now }
@@ -65,6 +71,7 @@ pub(crate) fn flag_p(head: &[u8]) -> bool
     head[0] / 16 % 2 == 1
 }
 
+#[tactic(auto, unfolding(rules::specs::Framing::flag_t))]
 pub(crate) fn flag_t(head: &[u8]) -> bool
     requires { 0 < length head.now }
     ensures { result ≡ flag_t head.now }
@@ -72,130 +79,93 @@ pub(crate) fn flag_t(head: &[u8]) -> bool
     head[0] / 8 % 2 == 1
 }
 
+#[tactic(auto, unfolding(rules::specs::Framing::length_field))]
 pub fn length_field(head: &[u8]) -> usize
     requires { 4 ≤ length head.now }
     ensures { Field head.now result }
 {
-    head[2] as usize * 256 + head[3] as usize
+    usize::from(u16::from_be_bytes([head[2], head[3]]))
 }
 
 // Where the elements begin.
+#[tactic(auto, unfolding(rules::specs::Framing::header_length))]
 pub fn start(head: &[u8]) -> usize
     requires { 0 < length head.now }
     ensures { Start head.now result }
 {
-    if flag_t(head) {
-        return 12;
-    }
-    8
+    if flag_t(head) { 12 } else { 8 }
 }
 
-// The number of the message type among those listed, or how many there are.
-pub(crate) fn seek(typ: u8) -> usize
+// What the rules say of the message type, if it is one of those listed.
+pub(crate) fn seek(typ: u8) -> Option<&'static Handled>
     ensures { Sought typ result }
 {
-    let types = TYPES;
-    let mut n = 0;
-    while n < 10 {
-        if types[n] == typ {
-            return n;
-        }
-        n += 1;
-    }
-    n
-}
-
-// Is the message type of number `n` sent on this kind?
-pub(crate) fn right_kind(kind: u32, n: usize) -> bool
-    requires { Sent kind n }
-    ensures { result ≡ among kind (get_or book.messages n no_message).kinds }
-{
-    if kind == 4 {
-        return MMES[n];
-    }
-    GATEWAYS[n]
-}
-
-// Does T stand as the message type of number `n` has it?
-pub(crate) fn right_t(head: &[u8], n: usize) -> bool
-    requires { Typed head.now n }
-    ensures { result ≡ beq (flag_t head.now) (get_or book.messages n no_message).teid }
-{
-    if flag_t(head) {
-        return TEIDS[n];
-    }
-    !TEIDS[n]
+    HANDLED.iter().find(|h| h.typ == typ)
 }
 
 // The level of a message's body.
+#[tactic(auto, using(crate::proofs::Messages::has_body), unfolding(rules::specs::Taking::body_level, rules::specs::Framing::message_type))]
 pub fn body(head: &[u8]) -> u8
     requires { Listed head.now }
     ensures { Body head.now result }
 {
-    let n = seek(head[1]);
-    BODIES[n]
+    match seek(head[1]) {
+        Some(h) => h.body,
+        None => unreachable!(),
+    }
 }
 
-// The length of the header of messages of a type, or 0 if the type is not listed.
-pub fn header_of(typ: u32) -> usize
+// The length of the header of messages of a type, if the type is listed.
+#[tactic(auto, using(crate::proofs::Messages::no_octet))]
+pub fn header_of(typ: u32) -> Option<usize>
     ensures { HeaderOf typ result }
 {
-    if 255 < typ {
-        return 0;
-    }
-    let n = seek(typ as u8);
-    if 10 <= n {
-        return 0;
-    }
-    if TEIDS[n] {
-        return 12;
-    }
-    8
+    let typ = u8::try_from(typ).ok()?;
+    let h = seek(typ)?;
+    Some(if h.teid { 12 } else { 8 })
 }
 
 // Is a message of a type that is listed sent on this kind?
+#[tactic(auto, using(crate::proofs::Messages::listed_octet, crate::proofs::Messages::by_kind))]
 pub fn sent_on(kind: u32, typ: u32) -> bool
     requires { Known kind typ }
     ensures { result ≡ among kind (message_of book typ).kinds }
 {
-    right_kind(kind, seek(typ as u8))
+    seek(typ as u8).is_some_and(|h| h.is_sent_on(kind))
 }
 
 // Checks 1 to 8, with 21 after 7, in order, of a message of `n` octets that begins with `head`.
-pub fn opening(kind: u32, head: &[u8], n: usize) -> Verdict
+#[tactic(auto, using(crate::proofs::Messages::by_kind), unfolding(rules::specs::Verdicts::first, rules::specs::Verdicts::check, rules::specs::Framing::message_type))]
+pub fn opening(kind: u32, head: &[u8], n: usize) -> Result<(), Refusal>
     requires { Opens head.now n }
-    ensures { result ≡ first (opening_checks book kind head.now n) }
+    ensures { told result ≡ first (opening_checks book kind head.now n) }
 {
     if !known(kind) {
-        return answers::refuse(1, 0);
+        return Err(Refusal::Kind);
     }
-    if n == 0 {
-        return answers::refuse(2, 0);
-    }
-    if 4096 < n {
-        return answers::refuse(2, 0);
+    if n == 0 || 4096 < n {
+        return Err(Refusal::Size);
     }
     if version(head) != 2 {
-        return answers::refuse(3, 0);
+        return Err(Refusal::Version);
     }
     if n < start(head) {
-        return answers::refuse(4, 0);
+        return Err(Refusal::Header);
     }
     if flag_p(head) {
-        return answers::refuse(5, 0);
+        return Err(Refusal::Piggybacked);
     }
     if length_field(head) + 4 != n {
-        return answers::refuse(6, 67);
+        return Err(Refusal::Length);
     }
-    let i = seek(head[1]);
-    if 10 <= i {
-        return answers::refuse(7, 0);
+    let Some(h) = seek(head[1]) else {
+        return Err(Refusal::MessageType);
+    };
+    if !h.is_sent_on(kind) {
+        return Err(Refusal::OtherKind);
     }
-    if !right_kind(kind, i) {
-        return answers::refuse(21, 0);
+    if flag_t(head) != h.teid {
+        return Err(Refusal::Teid);
     }
-    if !right_t(head, i) {
-        return answers::refuse(8, 0);
-    }
-    answers::accept()
+    Ok(())
 }

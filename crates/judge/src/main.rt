@@ -10,8 +10,7 @@ fn answer(rt: &impl Print, input: &[u8], out: &mut [u8]) -> io::Result<()> {
 }
 
 fn main(rt: HostRuntime) -> io::Result<()> {
-    let mut input = [0u8; 4098];
+    let mut input = [0; 4098];
     let n = output::fill(&mut rt.reader(), &mut input)?;
-    let mut out = output::buffer();
-    answer(&rt, &input[..n], &mut out)
+    answer(&rt, &input[..n], &mut [0; output::ROOM])
 }

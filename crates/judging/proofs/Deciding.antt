@@ -1,34 +1,14 @@
--- The verdict on a reading, check by check, and that it is the judge's. Assumes nothing.
---     given-refused, given-full, given-rest   by 1 to 9; by 10; by 11, by 12 or acceptance
---     verdict_is   the verdict on its reading is the judge's
+-- The verdict on a message's reading is the judge's. Assumes nothing.
 use mathlib.Core.Path.{◌≡◌, refl, sym, ◌∙◌}
 use mathlib.Core.Bool.{Bool, true, false, cond}
-use mathlib.Core.List.{List, [], ◌∷◌}
-use Prim.Native.Nat.{ℕ, ◌≤◌, ◌<◌}
-use borrow.Author.Tests.{lt-ltb, le-ltb}
-use Rattle.rules.specs.Sizes.{used}
+use mathlib.Core.List.{List}
+use Prim.Native.Nat.{ℕ}
 use Rattle.rules.specs.Listings.{book}
-use Rattle.rules.specs.Verdicts.{refused, check, refuses, first, framing_checks, table_checks, judge_checks, judge_verdict}
+use Rattle.rules.specs.Verdicts.{refuses, first, framing_checks, table_checks, judge_checks, judge_verdict}
 use Rattle.rules.specs.Answers.{reading_of, Read}
-use Rattle.rules.specs.declared.Verdict.{Verdict}
 use Rattle.rules.specs.declared.Reading.{Reading}
 use Rattle.rules.proofs.Checks.{first_append}
-use Rattle.answers.proofs.Refusing.{refusing}
 use Rattle.judging.specs.Judging.{given}
-
-module _ (r : Reading) (room : ℕ) where
-  pub given-refused : (r.refusal.code ≡ 0 → ⊥) → r.refusal ≡ given r room
-  unfolding given first
-  given-refused n = rw (refusing r.refusal n)
-
-  module _ (z : r.refusal.code ≡ 0) (v : Verdict) where
-    pub given-full : room < used r.rows → v ≡ refused 10 0 → v ≡ given r room
-    unfolding given first check
-    given-full h e = rw (z, lt-ltb room (used r.rows) h) e
-
-    pub given-rest : used r.rows ≤ room → v ≡ first (r.short ∷ r.lack ∷ []) → v ≡ given r room
-    unfolding given first check
-    given-rest h e = rw (z, le-ltb room (used r.rows) h) e
 
 module _ (k : ℕ) (m : List ℕ) where
   -- checks 1 to 9 come first

@@ -3,7 +3,7 @@
 --     formed       what is read has arrays as long as they are declared
 use mathlib.Core.Path.{◌≡◌, refl, sym, ap, ◌∙◌}
 use mathlib.Core.Bool.{Bool, true, false}
-use mathlib.Core.List.{List, [], ◌∷◌, ◌++◌, append_assoc, append-nil}
+use mathlib.Core.List.{List, [], ◌∷◌, ◌++◌, append_assoc}
 use Prim.Native.Nat.{ℕ, zero, suc, ◌+◌, ◌*◌, ◌/◌, ◌%◌, ◌≤◌, ◌<◌}
 use native.Mathlib.Nat.{div-div-eq-div-mul, div-add-mod'}
 use native.Mathlib.Omega.{arith}
@@ -17,7 +17,7 @@ use Rattle.pieces.specs.declared.Pieces.{Pieces}
 use Rattle.pieces.specs.Depth.{deepest}
 use Rattle.pieces.specs.Coded.{no_open}
 use Rattle.keeping.specs.Kept.{state_size, four_of, eight_of, number_on, number_of, run, number_at, flag_of, is_flag, start_octets, counts_octets, walk_octets, watch_octets, open_octets, nth, levels_from, level_size, opens_octets, state_octets, kept_in, open_at, opens_at, counts_at, walk_in, fields_in, state_in, Formed}
-use Rattle.keeping.proofs.Storing.{length_run, first, length-first, length_open, length-state, kept_is}
+use Rattle.keeping.proofs.Storing.{length_run, run_whole, first, length-first, length_open, length-state, kept_is}
 
 -- ---- numbers and bools
 
@@ -52,9 +52,6 @@ run-first zero [] ys e = refl
 run-first zero (x ∷ xs) ys e = absurd (omega (arith, e))
 run-first (suc k) [] ys e = absurd (omega (arith, e))
 run-first (suc k) (x ∷ xs) ys e = ap (λ (l : List ℕ). x ∷ l) (run-after k (x ∷ []) (xs ++ ys) 0 {m = 1} refl ∙ run-first k xs ys (omega (arith, e)))
-
-run-whole : (k : ℕ) (xs : List ℕ) → length xs ≡ k → run k xs 0 ≡ xs
-run-whole k xs e = ap (λ (l : List ℕ). run k l 0) (sym (append-nil xs)) ∙ run-first k xs [] e
 
 -- ---- a level
 
@@ -102,7 +99,7 @@ module _ (o : Open) (ys : List ℕ) where
         run-after 32 xs (before ++ numbers) 1 (omega (arith, e))
         ∙ run-after 32 (o.level ∷ []) (run 32 o.marks 0 ++ numbers) 0 {m = 1} refl
         ∙ run-first 32 (run 32 o.marks 0) numbers (length_run 32 o.marks 0)
-        ∙ run-whole 32 o.marks h
+        ∙ run_whole 32 o.marks h
 
     level-there : get_or (xs ++ (before ++ numbers)) n 0 ≡ o.level
     unfolding before
@@ -160,13 +157,13 @@ module _ (p : Pieces) (f : Formed p) where
     unfolding start_octets walk_octets watch_octets counts_octets four_of eight_of run counts_at walk_in
     walk-again e =
         let w = p.going in
-        going-same w (flag-again w.stopped) (eight_again w.depth) e (eight_again w.place) (eight_again w.have) (run-whole 4 w.some f.some_four)
+        going-same w (flag-again w.stopped) (eight_again w.depth) e (eight_again w.place) (eight_again w.have) (run_whole 4 w.some f.some_four)
         (eight_again w.pass) (counts-again w.counts) (flag-again w.limited) (eight_again w.apns) (counts-again w.back)
 
     fields_again : walk_in (first p ++ ys) ≡ p.going → fields_in (first p ++ ys) ≡ p
     unfolding start_octets walk_octets watch_octets counts_octets four_of eight_of run fields_in
     fields_again e =
-        pieces-same p (four-again p.kind) (eight_again p.room) (flag-again p.ended) (eight_again p.count) (run-whole 4 p.head f.head_four) e
+        pieces-same p (four-again p.kind) (eight_again p.room) (flag-again p.ended) (eight_again p.count) (run_whole 4 p.head f.head_four) e
 
   whole : (ys : List ℕ) → state_octets p ++ ys ≡ first p ++ (opens_octets deepest p.going 0 ++ ys)
   unfolding state_octets

@@ -3,7 +3,7 @@
 
 ghost use Rattle.std.specs.Prelude.{◌≡◌, [], ◌∷◌, ◌+◌, ◌≤◌, length};
 ghost use Rattle.std.proofs.lemmas.List.Edits.{sets};
-ghost use Rattle.keeping.specs.Kept.{state_size, flag_of, eight_of, run, number_of, number_at, Read, open_octets, start_octets, counts_octets, walk_octets, watch_octets, open_at, counts_at, walk_in, fields_in, kept_in, state_in};
+ghost use Rattle.keeping.specs.Kept.{state_size, flag_of, four_of, eight_of, run, number_at, open_octets, start_octets, counts_octets, walk_octets, watch_octets, open_at, counts_at, walk_in, fields_in, kept_in, state_in};
 
 use pieces::{Going, Open, Pieces};
 use taking::Counts;
@@ -11,96 +11,64 @@ use taking::Counts;
 // How many octets a state has.
 pub const SIZE: usize = 306;
 
-// ---- a state into octets
+// ---- a state into octets: each place is a figure of the format, by which it is read again
 
-fn flag(b: bool) -> u8
-    ensures { result ≡ flag_of b }
+fn put<const N: usize>(octets: &[u8; N], at: usize, out: &mut [u8])
+    requires { at + N ≤ length out.old }
+    ensures { out.new ≡ sets out.old at (run N octets.now 0) }
 {
-    if b {
-        return 1;
-    }
-    0
+    out[at..at + N].copy_from_slice(octets);
 }
 
-fn put_one(v: u8, at: usize, out: &mut [u8])
-    requires { at + 1 ≤ length out.old }
-    ensures { out.new ≡ sets out.old at (v ∷ []) }
-{
-    out[at] = v;
-}
-
-fn put_four(v: [u8; 4], at: usize, out: &mut [u8])
-    requires { at + 4 ≤ length out.old }
-    ensures { out.new ≡ sets out.old at (run 4 v 0) }
-{
-    out[at] = v[0];
-    out[at + 1] = v[1];
-    out[at + 2] = v[2];
-    out[at + 3] = v[3];
-}
-
+#[tactic(auto, using(crate::proofs::Storing::eight_bytes), unfolding(crate::specs::Kept::run))]
 fn put_number(v: usize, at: usize, out: &mut [u8])
     requires { at + 8 ≤ length out.old }
     ensures { out.new ≡ sets out.old at (eight_of v) }
 {
-    let high = [
-        (v / 72057594037927936) as u8,
-        (v / 281474976710656 % 256) as u8,
-        (v / 1099511627776 % 256) as u8,
-        (v / 4294967296 % 256) as u8,
-    ];
-    let low = [
-        (v / 16777216 % 256) as u8,
-        (v / 65536 % 256) as u8,
-        (v / 256 % 256) as u8,
-        (v % 256) as u8,
-    ];
-    put_four(high, at, out);
-    put_four(low, at + 4, out);
+    put(&v.to_be_bytes(), at, out);
 }
 
-fn put_marks(marks: &[u8; 32], at: usize, out: &mut [u8])
-    requires { at + 32 ≤ length out.old }
-    ensures { out.new ≡ sets out.old at (run 32 marks.now 0) }
+#[tactic(auto, using(crate::proofs::Storing::four_bytes), unfolding(crate::specs::Kept::run))]
+fn put_kind(kind: u32, at: usize, out: &mut [u8])
+    requires { at + 4 ≤ length out.old }
+    ensures { out.new ≡ sets out.old at (four_of kind) }
 {
-    let mut i = 0;
-    while i < 32 {
-        out[at + i] = marks[i];
-        i += 1;
-    }
+    put(&kind.to_be_bytes(), at, out);
 }
 
+fn put_flag(b: bool, at: usize, out: &mut [u8])
+    requires { at + 1 ≤ length out.old }
+    ensures { out.new ≡ sets out.old at (flag_of b ∷ []) }
+{
+    out[at] = u8::from(b);
+}
+
+#[tactic(auto, using(crate::proofs::Storing::open_set))]
 fn put_open(o: Open, at: usize, out: &mut [u8])
     requires { at + 57 ≤ length out.old }
     ensures { out.new ≡ sets out.old at (open_octets o) }
 {
-    let marks = o.marks;
-    put_one(o.level, at, out);
-    put_marks(&marks, at + 1, out);
+    out[at] = o.level;
+    put(&o.marks, at + 1, out);
     put_number(o.parent, at + 33, out);
     put_number(o.home, at + 41, out);
     put_number(o.left, at + 49, out);
 }
 
 // Kind, room, ended, count, head.
+#[tactic(auto, using(crate::proofs::Storing::start_set))]
 fn put_start(p: Pieces, out: &mut [u8])
     requires { state_size ≤ length out.old }
     ensures { out.new ≡ sets out.old 0 (start_octets p) }
 {
-    let head = p.head;
-    let kind = [
-        (p.kind / 16777216) as u8,
-        (p.kind / 65536 % 256) as u8,
-        (p.kind / 256 % 256) as u8,
-        (p.kind % 256) as u8,
-    ];
-    put_four(kind, 0, out);
+    put_kind(p.kind, 0, out);
     put_number(p.room, 4, out);
-    put_one(flag(p.ended), 12, out);
+    put_flag(p.ended, 12, out);
     put_number(p.count, 13, out);
-    put_four(head, 21, out);
+    put(&p.head, 21, out);
 }
 
+#[tactic(auto, using(crate::proofs::Storing::counts_set))]
 fn put_counts(c: Counts, at: usize, out: &mut [u8])
     requires { at + 32 ≤ length out.old }
     ensures { out.new ≡ sets out.old at (counts_octets c) }
@@ -112,46 +80,43 @@ fn put_counts(c: Counts, at: usize, out: &mut [u8])
 }
 
 // Stopped, depth, place, have, some, pass, and the counts.
+#[tactic(auto, using(crate::proofs::Storing::walk_set))]
 fn put_walk(w: Going, out: &mut [u8])
     requires { state_size ≤ length out.old }
     ensures { out.new ≡ sets out.old 25 (walk_octets w) }
 {
-    let some = w.some;
-    let counts = w.counts;
-    put_one(flag(w.stopped), 25, out);
+    put_flag(w.stopped, 25, out);
     put_number(w.depth, 26, out);
     put_number(w.place, 34, out);
     put_number(w.have, 42, out);
-    put_four(some, 50, out);
+    put(&w.some, 50, out);
     put_number(w.pass, 54, out);
-    put_counts(counts, 62, out);
+    put_counts(w.counts, 62, out);
 }
 
 // Limited, the APNs so far, and the counts to go back to.
+#[tactic(auto, using(crate::proofs::Storing::watch_set))]
 fn put_watch(w: Going, out: &mut [u8])
     requires { state_size ≤ length out.old }
     ensures { out.new ≡ sets out.old 94 (watch_octets w) }
 {
-    let back = w.back;
-    put_one(flag(w.limited), 94, out);
+    put_flag(w.limited, 94, out);
     put_number(w.apns, 95, out);
-    put_counts(back, 103, out);
+    put_counts(w.back, 103, out);
 }
 
 // A buffer that is too short is left alone.
+#[tactic(auto, using(crate::proofs::Storing::unkept, crate::proofs::Storing::state_kept))]
 pub fn keep(p: Pieces, state: &mut [u8])
     ensures { state.new ≡ kept_in p state.old }
 {
     if state.len() < SIZE {
         return;
     }
-    let w = p.going;
-    let outer = w.levels[0];
-    let inner = w.levels[1];
-    let innermost = w.levels[2];
+    let [outer, inner, innermost] = p.going.levels;
     put_start(p, state);
-    put_walk(w, state);
-    put_watch(w, state);
+    put_walk(p.going, state);
+    put_watch(p.going, state);
     put_open(outer, 135, state);
     put_open(inner, 192, state);
     put_open(innermost, 249, state);
@@ -159,66 +124,38 @@ pub fn keep(p: Pieces, state: &mut [u8])
 
 // ---- octets into a state
 
-fn wide(x: u8) -> usize
-    ensures { Read x result 256 }
+fn octets_at<const N: usize>(s: &[u8], at: usize) -> [u8; N]
+    requires { at + N ≤ length s.now }
+    ensures { result ≡ run N s.now at }
 {
-    x as usize
+    let mut octets = [0; N];
+    octets.copy_from_slice(&s[at..at + N]);
+    octets
 }
 
-fn four_at(s: &[u8], at: usize) -> [u8; 4]
-    requires { at + 4 ≤ length s.now }
-    ensures { result ≡ run 4 s.now at }
-{
-    [s[at], s[at + 1], s[at + 2], s[at + 3]]
-}
-
-fn marks_at(s: &[u8], at: usize) -> [u8; 32]
-    requires { at + 32 ≤ length s.now }
-    ensures { result ≡ run 32 s.now at }
-{
-    let mut marks = [0u8; 32];
-    let mut i = 0;
-    while i < 32 {
-        marks[i] = s[at + i];
-        i += 1;
-    }
-    marks
-}
-
-fn quad_at(s: &[u8], at: usize) -> usize
-    requires { at + 4 ≤ length s.now }
-    ensures { Read (number_of (run 4 s.now at)) result 4294967296 }
-{
-    let a = wide(s[at]);
-    let b = wide(s[at + 1]);
-    let c = wide(s[at + 2]);
-    let d = wide(s[at + 3]);
-    ((a * 256 + b) * 256 + c) * 256 + d
-}
-
+#[tactic(auto, using(crate::proofs::Loading::eight_read))]
 fn number_at(s: &[u8], at: usize) -> usize
     requires { at + 8 ≤ length s.now }
     ensures { result ≡ number_at s.now at }
 {
-    let high = quad_at(s, at);
-    let low = quad_at(s, at + 4);
-    high * 4294967296 + low
+    usize::from_be_bytes(octets_at(s, at))
 }
 
+#[tactic(auto, unfolding(crate::specs::Kept::open_at))]
 fn open_at(s: &[u8], at: usize) -> Open
     requires { at + 57 ≤ length s.now }
     ensures { result ≡ open_at s.now at }
 {
-    let marks = marks_at(s, at + 1);
     Open {
         level: s[at],
-        marks,
+        marks: octets_at(s, at + 1),
         parent: number_at(s, at + 33),
         home: number_at(s, at + 41),
         left: number_at(s, at + 49),
     }
 }
 
+#[tactic(auto, unfolding(crate::specs::Kept::counts_at))]
 fn counts_at(s: &[u8], at: usize) -> Counts
     requires { at + 32 ≤ length s.now }
     ensures { result ≡ counts_at s.now at }
@@ -231,6 +168,7 @@ fn counts_at(s: &[u8], at: usize) -> Counts
     }
 }
 
+#[tactic(auto, unfolding(crate::specs::Kept::walk_in, crate::specs::Kept::opens_at))]
 fn walk_in(s: &[u8]) -> Going
     requires { state_size ≤ length s.now }
     ensures { result ≡ walk_in s.now }
@@ -238,48 +176,43 @@ fn walk_in(s: &[u8]) -> Going
     let outer = open_at(s, 135);
     let inner = open_at(s, 192);
     let innermost = open_at(s, 249);
-    let levels = [outer, inner, innermost];
-    let some = four_at(s, 50);
-    let counts = counts_at(s, 62);
-    let back = counts_at(s, 103);
     Going {
         stopped: s[25] != 0,
         depth: number_at(s, 26),
-        levels,
+        levels: [outer, inner, innermost],
         place: number_at(s, 34),
         have: number_at(s, 42),
-        some,
+        some: octets_at(s, 50),
         pass: number_at(s, 54),
-        counts,
+        counts: counts_at(s, 62),
         limited: s[94] != 0,
         apns: number_at(s, 95),
-        back,
+        back: counts_at(s, 103),
     }
 }
 
+#[tactic(auto, using(crate::proofs::Loading::four_read), unfolding(crate::specs::Kept::fields_in))]
 fn fields_in(s: &[u8]) -> Pieces
     requires { state_size ≤ length s.now }
     ensures { result ≡ fields_in s.now }
 {
-    let head = four_at(s, 21);
-    let going = walk_in(s);
     Pieces {
-        kind: quad_at(s, 0) as u32,
+        kind: u32::from_be_bytes(octets_at(s, 0)),
         room: number_at(s, 4),
         ended: s[12] != 0,
         count: number_at(s, 13),
-        head,
-        going,
+        head: octets_at(s, 21),
+        going: walk_in(s),
     }
 }
 
 // A buffer that is too short is read as zeros.
+#[tactic(auto, unfolding(crate::specs::Kept::state_in))]
 pub fn kept(state: &[u8]) -> Pieces
     ensures { result ≡ state_in state.now }
 {
     if state.len() < SIZE {
-        let zeros = [0u8; SIZE];
-        return fields_in(&zeros);
+        return fields_in(&[0; SIZE]);
     }
     fields_in(state)
 }

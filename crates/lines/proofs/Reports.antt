@@ -1,44 +1,41 @@
 -- The text on a message is the refusal's line, or the counts and the rows' lines; and an input is a kind and a message. Assumes nothing.
 --     reported_refused, reported_accepted   by the call's verdict, table and all
---     list_puts                             the counts and the rows of a table
 --     written                               what is put from the start is what Written says
-use mathlib.Core.Path.{◌≡◌, refl, sym, ap, ◌∙◌}
+--     message-counted, listed_rows          the parts of an input and of a table that count
+use mathlib.Core.Path.{◌≡◌, ap, ◌∙◌}
 use mathlib.Core.Bool.{false}
-use mathlib.Core.List.{List, [], ◌∷◌, ◌++◌}
-use Prim.Native.Nat.{ℕ, ◌-◌, ◌≤◌}
+use mathlib.Core.List.{List, ◌++◌}
+use Prim.Native.Nat.{ℕ, ◌-◌, min}
 use native.Mathlib.Omega.{arith}
 use lib.ListN.{length, take, drop, get_or, length-append, length-drop}
 use lib.Seq.{take_all}
+use Rattle.std.proofs.lemmas.List.{take_min}
+use Rattle.std.proofs.Math.Nat.{min_comm}
 use Rattle.rules.specs.Framing.{message_type}
 use Rattle.rules.specs.Listings.{book}
 use Rattle.rules.specs.Table.{rows_of, kept_rows, header, table_of, laid}
 use Rattle.rules.specs.Verdicts.{refuses, items, call_verdict, call_table}
 use Rattle.rules.specs.Octets.{five}
-use Rattle.rules.specs.Program.{blanked, row_lines, accept_word, refuse_word, text_of, input_kind, input_message, Written}
+use Rattle.rules.specs.Program.{blanked, row_lines, refuse_word, text_of, input_kind, input_message, Written}
 use Rattle.rules.specs.Answers.{Called}
 use Rattle.rules.specs.declared.Verdict.{Verdict}
 use Rattle.rules.proofs.Rows.{rows-length}
 use Rattle.answers.proofs.Refusing.{refusing}
+use Rattle.wording.specs.declared.Sheet.{Sheet}
 use Rattle.wording.specs.Puts.{Puts}
-use Rattle.wording.proofs.Puts.{then-puts, puts-start, puts-same}
-use Rattle.lines.specs.Lines.{lines_from, Lists, list_text, Reported}
+use Rattle.wording.specs.Sheets.{Writes}
+use Rattle.wording.proofs.Puts.{puts-start, puts-same}
+use Rattle.lines.specs.Lines.{lines_from, Lists, list_text}
 use Rattle.lines.proofs.Lines.{lines_are}
-
--- ---- by a table
-
-pub list_puts : (table : List ℕ) → {out out₁ out₂ : List ℕ} {at₁ r : ℕ} → Puts (accept_word ++ blanked (get_or table 0 0 ∷ get_or table 1 0 ∷ [])) 0 out at₁ out₁
-    → Puts (lines_from (take (length table - 6) (drop 6 table)) 0 (get_or table 0 0)) at₁ out₁ r out₂ → Puts (list_text table) 0 out r out₂
-unfolding list_text
-list_puts table p q = then-puts p (rw (take_all (length table - 6) (drop 6 table) (omega (arith, length-drop 6 table))) at q)
 
 -- ---- by the one call, with a table and a copy that are large enough for any message
 
-module _ (k : ℕ) (m out : List ℕ) {table₀ copy₀ : List ℕ} {v : Verdict} {table copy : List ℕ} (x : Called k m table₀ copy₀ v table copy)
+module _ (k : ℕ) (m : List ℕ) {table₀ copy₀ : List ℕ} {v : Verdict} {table copy : List ℕ} (x : Called k m table₀ copy₀ v table copy)
     (t : 6138 ≡ length table₀) (c : 4096 ≡ length copy₀) where
   verdict_is : v ≡ call_verdict book k m 4096 6138
   verdict_is = rw (t, c) x.answers
 
-  pub reported_refused : {r : ℕ} {out' : List ℕ} → (v.code ≡ 0 → ⊥) → Puts (refuse_word ++ blanked (five v)) 0 out r out' → Reported k m out r out'
+  pub reported_refused : {s t : Sheet} → (v.code ≡ 0 → ⊥) → Writes (refuse_word ++ blanked (five v)) s t → Writes (text_of book k m) s t
   unfolding text_of
   reported_refused n p = rw (← verdict_is, refusing v n) p
 
@@ -75,7 +72,7 @@ module _ (k : ℕ) (m out : List ℕ) {table₀ copy₀ : List ℕ} {v : Verdict
           there = rw (count_is, table_is) (omega (arith, n, length-append (rows_of (items book k m)) rest));
         }
 
-    pub reported_accepted : {r : ℕ} {out' : List ℕ} → Puts (list_text table) 0 out r out' → Reported k m out r out'
+    pub reported_accepted : {s t : Sheet} → Writes (list_text table) s t → Writes (text_of book k m) s t
     unfolding text_of list_text
     reported_accepted p =
         let l : lines_from (drop 6 table) 0 (get_or table 0 0) ≡ row_lines (items book k m) = ap (lines_from (drop 6 table) 0) count_is ∙ lines_are (items book k m) (drop 6 table) rest rows_are in
@@ -83,13 +80,15 @@ module _ (k : ℕ) (m out : List ℕ) {table₀ copy₀ : List ℕ} {v : Verdict
 
 -- ---- the input
 
-pub written : (input out : List ℕ) {r : ℕ} {out' : List ℕ} → Reported (input_kind input) (input_message input) out r out' → Written input out r out'
+pub written : (input out : List ℕ) {r : ℕ} {out' : List ℕ} → Puts (text_of book (input_kind input) (input_message input)) 0 out r out' → Written input out r out'
 written input out p =
     let s = puts-same p (puts-start (text_of book (input_kind input) (input_message input)) out) in record { answers = s.0; out_left = s.1 }
 
-pub no_input : (input : List ℕ) → length input ≡ 0 → (0 ≡ input_kind input) × (input ≡ input_message input)
-no_input [] e = (refl, refl)
-no_input (x ∷ input) e = absurd (omega arith)
+pub message-counted : (input : List ℕ) {n : ℕ} → n ≡ min (length (take (length input - 1) (drop 1 input))) 4097 → take n (take (length input - 1) (drop 1 input)) ≡ input_message input
+message-counted input e =
+    let all : take (length input - 1) (drop 1 input) ≡ drop 1 input = take_all (length input - 1) (drop 1 input) (omega (arith, length-drop 1 input)) in
+    ap (λ i. take i (take (length input - 1) (drop 1 input))) (e ∙ min_comm _ _) ∙ take_min 4097 (take (length input - 1) (drop 1 input)) ∙ ap (take 4097) all
 
-pub short_input : (input : List ℕ) → length input ≤ 4098 → take (length input - 1) (drop 1 input) ≡ input_message input
-short_input input l = take_all (length input - 1) (drop 1 input) (omega (arith, length-drop 1 input)) ∙ sym (take_all 4097 (drop 1 input) (omega (arith, length-drop 1 input)))
+-- the rows of a table after its header
+pub listed_rows : (table : List ℕ) → take (length table - 6) (drop 6 table) ≡ drop 6 table
+listed_rows table = take_all (length table - 6) (drop 6 table) (omega (arith, length-drop 6 table))

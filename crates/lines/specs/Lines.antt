@@ -1,9 +1,7 @@
--- The lines of a run of rows, and the text on a message as it is put. Assumes nothing.
+-- The lines of a run of rows, and the text on an accepted message by its table. Assumes nothing.
 use Rattle.std.specs.Prelude.{ℕ, ◌*◌, ◌≤◌, List, [], ◌∷◌, ◌++◌, length, take, drop, get_or}
 use Rattle.rules.specs.Sizes.{header_numbers, used}
-use Rattle.rules.specs.Listings.{book}
-use Rattle.rules.specs.Program.{blanked, line, accept_word, text_of}
-use Rattle.wording.specs.Puts.{Puts}
+use Rattle.rules.specs.Program.{blanked, line, accept_word}
 use Rattle.wording.specs.Pieces.{for_each}
 
 -- the six numbers of row i
@@ -22,6 +20,3 @@ pub record Lists (table : List ℕ) : Type 0 where
 -- the counts and the rows of a table
 unfoldable pub list_text : List ℕ → List ℕ
 list_text table = accept_word ++ blanked (get_or table 0 0 ∷ get_or table 1 0 ∷ []) ++ lines_from (drop header_numbers table) 0 (get_or table 0 0)
-
-abbrev pub Reported : ℕ → List ℕ → List ℕ → ℕ → List ℕ → Type 0
-Reported k m out answer out' = Puts (text_of book k m) 0 out answer out'

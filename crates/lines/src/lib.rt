@@ -2,90 +2,93 @@
 #![tactic(auto)]
 
 ghost use Rattle.std.specs.Prelude.{◌++◌, ◌*◌, ◌≤◌, ◌<◌, length};
-ghost use Rattle.rules.specs.Program.{blanked, line, Written};
-ghost use Rattle.wording.specs.Puts.{Puts};
-ghost use Rattle.lines.specs.Lines.{lines_from, Lists, list_text, Reported};
+ghost use Rattle.rules.specs.Listings.{book};
+ghost use Rattle.rules.specs.Program.{blanked, line, text_of, input_kind, input_message, Written};
+ghost use Rattle.wording.specs.Sheets.{Writes};
+ghost use Rattle.lines.specs.Lines.{lines_from, Lists, list_text};
+
+use wording::Sheet;
 
 // A blank before each number, and a newline.
-fn blanked(numbers: &[u16], at: usize, out: &mut [u8]) -> usize
-    ensures { Puts (blanked numbers.now) at out.old result out.new }
+fn blanked(numbers: &[u16], sheet: &mut Sheet)
+    ensures { Writes (blanked numbers.now) sheet.old sheet.new }
 {
-    let mut to = at;
-    let mut n = 0;
-    while n < numbers.len() {
-        to = wording::next_number(numbers[n], to, out);
-        n += 1;
+    for &n in numbers {
+        sheet.next_number(n);
     }
-    wording::put(10, to, out)
+    sheet.put(b'\n');
 }
 
 // A word and numbers.
-fn said(word: &[u8], numbers: &[u16], out: &mut [u8]) -> usize
-    ensures { Puts (word.now ++ blanked numbers.now) 0 out.old result out.new }
+fn said(word: &[u8], numbers: &[u16], sheet: &mut Sheet)
+    ensures { Writes (word.now ++ blanked numbers.now) sheet.old sheet.new }
 {
-    let after = wording::copy(word, 0, out);
-    blanked(numbers, after, out)
+    sheet.copy(word);
+    blanked(numbers, sheet);
 }
 
 // The numbers of a row.
-fn row_line(row: &[u16], at: usize, out: &mut [u8]) -> usize
+fn row_line(row: &[u16], sheet: &mut Sheet)
     requires { 0 < length row.now }
-    ensures { Puts (line row.now) at out.old result out.new }
+    ensures { Writes (line row.now) sheet.old sheet.new }
 {
-    let after = wording::number(row[0], at, out);
-    blanked(&row[1..], after, out)
+    sheet.number(row[0]);
+    blanked(&row[1..], sheet);
 }
 
-// A line for each of the first `count` rows.
-fn row_lines(rows: &[u16], count: usize, at: usize, out: &mut [u8]) -> usize
+// A line for each of the first `count` rows. By their place: chunks of six would have to be told where to end first.
+fn row_lines(rows: &[u16], count: usize, sheet: &mut Sheet)
     requires { 6 * count ≤ length rows.now }
-    ensures { Puts (lines_from rows.now 0 count) at out.old result out.new }
+    ensures { Writes (lines_from rows.now 0 count) sheet.old sheet.new }
 {
-    let mut to = at;
-    let mut n = 0;
-    while n < count {
-        let from = 6 * n;
-        let end = from + 6;
-        to = row_line(&rows[from..end], to, out);
-        n += 1;
+    for n in 0..count {
+        row_line(&rows[6 * n..6 * n + 6], sheet);
     }
-    to
 }
 
 // The text on an accepted message, by its table.
-fn listed(table: &[u16], out: &mut [u8]) -> usize
+fn listed(table: &[u16], sheet: &mut Sheet)
     requires { Lists table.now }
-    ensures { Puts (list_text table.now) 0 out.old result out.new }
+    ensures { Writes (list_text table.now) sheet.old sheet.new }
 {
     let count = table[0];
     let kept = table[1];
-    let at = said(b"accept", &[count, kept], out);
-    row_lines(&table[6..], count as usize, at, out)
+    said(b"accept", &[count, kept], sheet);
+    row_lines(&table[6..], usize::from(count), sheet);
 }
 
 // The text on a message.
-fn report(kind: u32, message: &[u8], out: &mut [u8]) -> usize
-    ensures { Reported kind message.now out.old result out.new }
+fn report(kind: u32, message: &[u8], sheet: &mut Sheet)
+    ensures { Writes (text_of book kind message.now) sheet.old sheet.new }
 {
-    let mut table = scratch::table();
-    let mut copy = scratch::page();
+    let mut table = [0; scratch::TABLE];
+    let mut copy = [0; scratch::PAGE];
     let v = calling::judge_copy(kind, message, &mut table, &mut copy);
+    // five numbers are what C is told, and what is written
     if v.code != 0 {
-        return said(b"refuse", &[v.code, v.cause, v.place, v.typ, v.inst], out);
+        said(b"refuse", &[v.code, v.cause, v.place, v.typ, v.inst], sheet);
+    } else {
+        listed(&table, sheet);
     }
-    listed(&table, out)
 }
 
-// The text on an input: its first octet is the kind, and up to 4,097 more are the message.
+// Of an input the first octet is the kind, and up to 4,097 more are the message.
+fn answer(input: &[u8], sheet: &mut Sheet)
+    ensures { Writes (text_of book (input_kind input.now) (input_message input.now)) sheet.old sheet.new }
+{
+    match input {
+        [] => report(0, input, sheet),
+        [kind, message @ ..] => {
+            report(u32::from(*kind), &message[..message.len().min(4097)], sheet)
+        }
+    }
+}
+
+// The text on an input; answers how many octets of it are in the buffer.
 pub fn text(input: &[u8], out: &mut [u8]) -> usize
     ensures { Written input.now out.old result out.new }
 {
-    if input.len() == 0 {
-        return report(0, input, out);
-    }
-    let kind = input[0] as u32;
-    if input.len() <= 4098 {
-        return report(kind, &input[1..], out);
-    }
-    report(kind, &input[1..4098], out)
+    let mut sheet = Sheet::new(out, 0);
+    answer(input, &mut sheet);
+    sheet.at()
 }

@@ -1,3 +1,4 @@
 pub mod Tables
 pub mod Spans
 pub mod Seeking
+pub mod Unique

@@ -6,7 +6,7 @@ use Prim.Native.Nat.{ℕ, suc, ◌+◌, ◌-◌, ◌≤◌, ◌<◌}
 use native.Mathlib.Nat.{sub-zero, zero-add}
 use native.Mathlib.Numerals.{add-one}
 use native.Mathlib.Omega.{arith}
-use borrow.Author.Tests.{ltb-false, eqb-true}
+use borrow.Author.Tests.{ltb-false, eqb-true, ne_eqb}
 use lib.Dec.{eqb, ltb}
 use lib.ListN.{length, get_or}
 use Rattle.rules.specs.Sizes.{header_numbers, used}
@@ -42,9 +42,9 @@ has_all t w row l = omega (arith, w.all_there)
 
 -- ---- whose table it is: the same tests in another order
 module _ (k : ℕ) (m t : List ℕ) where
-  pub of-by : is_of k m t ≡ (headed t && eqb (table_kind t) k && ltb 1 (length m) && eqb (table_type t) (octet m 1) && eqb (get_or t 1 0) (standing_kept t 0 (row_count t)))
+  pub of_by : is_of k m t ≡ (headed t && eqb (table_kind t) k && ltb 1 (length m) && eqb (table_type t) (octet m 1) && eqb (get_or t 1 0) (standing_kept t 0 (row_count t)))
   unfolding is_of headed
-  of-by = go (reads_as_cut t) (eqb (get_or t 2 0) header_numbers) (eqb (get_or t 3 0) (used (row_count t))) (eqb (get_or t 1 0) (standing_kept t 0 (row_count t))) (eqb (table_kind t) k) (ltb 1 (length m)) (eqb (table_type t) (octet m 1))
+  of_by = go (reads_as_cut t) (eqb (get_or t 2 0) header_numbers) (eqb (get_or t 3 0) (used (row_count t))) (eqb (get_or t 1 0) (standing_kept t 0 (row_count t))) (eqb (table_kind t) k) (ltb 1 (length m)) (eqb (table_type t) (octet m 1))
     where
       go : (x a b c d e f : Bool) → (not (x || (not a || not b || not c)) && d && e && f) ≡ ((not x && a && b) && d && e && f && c)
       go true a b c d e f = refl
@@ -59,8 +59,8 @@ module _ (k : ℕ) (m t : List ℕ) where
       go false true true false true true true = refl
       go false true true false true true false = refl
 
-  pub of-whole : is_of k m t ≡ true → Whole t
-  of-whole e = go (headed t) refl (rw of-by at e)
+  pub of_whole : is_of k m t ≡ true → Whole t
+  of_whole e = go (headed t) refl (rw of_by at e)
     where
       go : (c : Bool) → headed t ≡ c
           → (c && eqb (table_kind t) k && ltb 1 (length m) && eqb (table_type t) (octet m 1) && eqb (get_or t 1 0) (standing_kept t 0 (row_count t))) ≡ true → Whole t
@@ -68,9 +68,9 @@ module _ (k : ℕ) (m t : List ℕ) where
       go false h f = let z : ◌≡◌ {A = ℕ} 0 1 = cc in absurd (omega arith)
 
   -- ---- how many rows it has
-  pub all-rows : is_of k m t ≡ true → row_count t ≡ table_rows k m t
+  pub all_rows : is_of k m t ≡ true → row_count t ≡ table_rows k m t
   unfolding table_rows
-  all-rows e = rw e
+  all_rows e = rw e
 
   pub no_rows : is_of k m t ≡ false → 0 ≡ table_rows k m t
   unfolding table_rows
@@ -81,7 +81,7 @@ module _ (k : ℕ) (m t : List ℕ) where
   rows_in = go (is_of k m t) refl
     where
       go : (c : Bool) → is_of k m t ≡ c → HasRows t (cond c (row_count t) 0)
-      go true e = has_all t (of-whole e)
+      go true e = has_all t (of_whole e)
       go false e = λ row l. absurd (omega arith)
 
 -- ---- counting the rows of standing 0, from the first on
@@ -91,24 +91,23 @@ module _ (t : List ℕ) (n : ℕ) where
     pub few : kept ≤ row
     pub sum : kept + standing_kept t row (n - row) ≡ standing_kept t 0 n
 
-  pub count-begins : Counting 0 0
-  count-begins = record { most = omega arith; few = omega arith; sum = rw sub-zero (zero-add (standing_kept t 0 n)) }
+  pub count_begins : Counting 0 0
+  count_begins = record { most = omega arith; few = omega arith; sum = rw sub-zero (zero-add (standing_kept t 0 n)) }
 
-  pub count-goes : {kept row kept' : ℕ} → Counting kept row → row < n → kept' ≡ cond (eqb (row_standing t row) 0) (kept + 1) kept → Counting kept' (row + 1)
+  module _ {kept row : ℕ} (s : Counting kept row) (l : row < n) where
+    left : n - row ≡ suc (n - (row + 1))
+    left = omega arith
+
+    pub counted : row_standing t row ≡ 0 → Counting (kept + 1) (row + 1)
+    unfolding standing_kept
+    counted e = let g = rw (left, e, ← add-one row) at s.sum in record { most = omega arith; few = omega (arith, s.few); sum = omega arith }
+
+    pub passed : (row_standing t row ≡ 0 → ⊥) → Counting kept (row + 1)
+    unfolding standing_kept
+    passed e = let g = rw (left, ne_eqb (row_standing t row) 0 e, ← add-one row) at s.sum in record { most = omega arith; few = omega (arith, s.few); sum = g }
+
+  pub count_ends : {kept row : ℕ} → Counting kept row → n ≤ row → kept ≡ standing_kept t 0 n
   unfolding standing_kept
-  count-goes {kept} {row} {kept'} s l e =
-      let z : n - row ≡ suc (n - (row + 1)) = omega arith in
-      go (eqb (row_standing t row) 0) e (rw (z, ← add-one row) at s.sum)
-    where
-      rest : ℕ
-      rest = standing_kept t (row + 1) (n - (row + 1))
-
-      go : (c : Bool) → kept' ≡ cond c (kept + 1) kept → kept + cond c (suc rest) rest ≡ standing_kept t 0 n → Counting kept' (row + 1)
-      go true f g = record { most = omega arith; few = omega (arith, s.few); sum = omega arith }
-      go false f g = record { most = omega arith; few = omega (arith, s.few); sum = omega arith }
-
-  pub count-ends : {kept row : ℕ} → Counting kept row → n ≤ row → kept ≡ standing_kept t 0 n
-  unfolding standing_kept
-  count-ends {kept} {row} s l =
+  count_ends {kept} {row} s l =
       let z : n - row ≡ 0 = omega arith in
       omega (arith, rw z at s.sum)

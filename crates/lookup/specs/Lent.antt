@@ -1,7 +1,8 @@
 -- The parts of contracts over a lent table and a lent buffer. Assumes nothing.
-use Rattle.std.specs.Prelude.{◌≡◌, Bool, true, cond, not, ◌&&◌, List, ℕ, ◌+◌, ◌≤◌, ◌<◌, eqb, leb, ltb, length, get_or}
+use Rattle.std.specs.Prelude.{◌≡◌, Bool, true, cond, not, ◌&&◌, List, ℕ, ◌+◌, ◌≤◌, ◌<◌, eqb, leb, ltb, length, get_or, Option, Some, None}
+use Rattle.std.specs.Borrow.{Bor}
 use Rattle.rules.specs.Sizes.{header_numbers, row_numbers, used}
-use Rattle.rules.specs.Values.{row_place, row_length, row_count, reads_as_cut, nowhere}
+use Rattle.rules.specs.Values.{row_place, row_length, row_count, reads_as_cut, nowhere, seek_plain, Stands}
 use Rattle.rules.specs.declared.Span.{Span}
 
 -- a number of the table, which has 16 bits
@@ -35,6 +36,12 @@ span_by count t r n =
 unfoldable pub desk_by : ℕ → ℕ → ℕ → ℕ → List ℕ → Span
 desk_by count r message copy t = cond (eqb message copy) (span_by count t r copy) nowhere
 
--- a span lies in a buffer of n octets
-abbrev pub Within : Span → ℕ → Type 0
-Within s n = s.start + s.len ≤ n
+-- what is found of a buffer: nothing where the span is nowhere, or the part that stands there
+abbrev pub Finds : Bor (List ℕ) → Span → Option (Bor (List ℕ)) → Type 0
+Finds buffer s None = s ≡ nowhere
+Finds buffer s (Some part) = (s.there ≡ true) × Stands buffer s part
+
+-- the first row of the pair among so many, if there is one
+abbrev pub Seeks : List ℕ → ℕ → ℕ → ℕ → Option ℕ → Type 0
+Seeks t typ inst count None = seek_plain t typ inst 0 count ≡ count
+Seeks t typ inst count (Some row) = (row < count) × (seek_plain t typ inst 0 count ≡ row)

@@ -3,219 +3,172 @@
 // is looked at once a call.
 #![tactic(auto)]
 
-ghost use Rattle.std.specs.Prelude.{◌≡◌, cond, length};
-ghost use Rattle.rules.specs.Values.{standing_kept, is_of, table_rows, cell, nowhere, is_plain, seek_plain, plain_span, Stands};
+ghost use Rattle.std.specs.Prelude.{◌≡◌, cond, length, unwrap_or};
+ghost use Rattle.rules.specs.Values.{standing_kept, is_of, table_rows, cell, is_plain, seek_plain, plain_span, desk_span, Stands};
 ghost use Rattle.rules.specs.Answers.{Plain, PlainFound, Desk, DeskFound};
-ghost use Rattle.lookup.specs.Lent.{Number, HasRow, HasRows, Asked, headed, span_by, desk_by, Within};
-
-use rules::Span;
+ghost use Rattle.lookup.specs.Lent.{HasRow, HasRows, Asked, headed, span_by, desk_by, Finds, Seeks};
 
 // The numbers of a table's header, after which the rows stand, and the numbers of a row.
 const HEADER: usize = 6;
 
 const ROW: usize = 6;
 
-// A number of the table to count with.
-fn wide(x: u16) -> usize
-    ensures { Number x result }
-{
-    x as usize
-}
-
-fn octet(x: u8) -> usize
-    ensures { result ≡ x }
-{
-    x as usize
-}
-
-fn pick(hit: bool, yes: usize, no: usize) -> usize
-    ensures { result ≡ cond hit yes no }
-{
-    if hit {
-        return yes;
-    }
-    no
-}
-
-// Number `j` of a row.
-fn number(row: usize, j: usize, table: &[u16]) -> usize
+// Number `j` of a row, of which no more than one is asked for at a time.
+fn number(row: usize, j: usize, table: &[u16]) -> u16
     requires { Asked table.now row j }
-    ensures { Number (cell table.now row j) result }
+    ensures { result ≡ cell table.now row j }
 {
-    wide(table[HEADER + ROW * row + j])
+    table[HEADER + ROW * row + j]
 }
 
 // Is the table as long as its header says, with the rows where they have to be?
+#[tactic(auto, unfolding(crate::specs::Lent::headed))]
 fn is_headed(table: &[u16]) -> bool
     ensures { result ≡ headed table.now }
 {
-    if table.len() < HEADER {
-        return false;
-    }
-    let used = wide(table[3]);
-    if table.len() < used {
-        return false;
-    }
-    if wide(table[2]) != HEADER {
-        return false;
-    }
-    used == HEADER + ROW * wide(table[0])
+    HEADER <= table.len()
+        && usize::from(table[3]) <= table.len()
+        && usize::from(table[2]) == HEADER
+        && usize::from(table[3]) == HEADER + ROW * usize::from(table[0])
 }
 
-// How many of the first `count` rows have standing 0.
+// How many of the first `count` rows have standing 0. Count and table go apart here and below, since `desk_part` takes them so.
 fn standing_kept(count: usize, table: &[u16]) -> usize
     requires { HasRows table.now count }
     ensures { result ≡ standing_kept table.now 0 count }
 {
     let mut kept = 0;
-    let mut row = 0;
-    while row < count {
-        let stand = number(row, 5, table);
-        let more = kept + 1;
-        kept = pick(stand == 0, more, kept);
-        row += 1;
+    for row in 0..count {
+        if number(row, 5, table) == 0 {
+            kept += 1;
+        }
     }
     kept
 }
 
 // By its header, is it a table of that message on that kind? The kind may be any number, and is compared alone.
+#[tactic(auto, using(crate::proofs::Tables::of_by))]
 fn is_of(kind: u32, message: &[u8], table: &[u16]) -> bool
     ensures { result ≡ is_of kind message.now table.now }
 {
     if !is_headed(table) {
         return false;
     }
-    if wide(table[5]) != kind as usize {
-        return false;
-    }
-    if message.len() <= 1 {
-        return false;
-    }
-    if wide(table[4]) != octet(message[1]) {
-        return false;
-    }
-    wide(table[1]) == standing_kept(wide(table[0]), table)
+    u32::from(table[5]) == kind
+        && 1 < message.len()
+        && table[4] == u16::from(message[1])
+        && usize::from(table[1]) == standing_kept(usize::from(table[0]), table)
 }
 
 // How many rows the table has for the lookups: none if it is not of that message on that kind.
+#[tactic(auto, using(crate::proofs::Tables::all_rows, crate::proofs::Tables::no_rows))]
 pub fn rows(kind: u32, message: &[u8], table: &[u16]) -> usize
     ensures { result ≡ table_rows kind message.now table.now }
 {
     if is_of(kind, message, table) {
-        return wide(table[0]);
-    }
-    0
-}
-
-fn nowhere() -> Span
-    ensures { result ≡ nowhere }
-{
-    Span {
-        start: 0,
-        len: 0,
-        there: false,
+        usize::from(table[0])
+    } else {
+        0
     }
 }
 
-// Where the value of a row stands in a buffer of `size` octets, of a table with `count` rows.
-fn row_span(count: usize, row: usize, size: usize, table: &[u16]) -> Span
+// The part of a buffer where the value of a row stands, of a table with `count` rows.
+fn row_part<'a>(count: usize, row: usize, buffer: &'a [u8], table: &[u16]) -> Option<&'a [u8]>
     requires { HasRows table.now count }
-    ensures { result ≡ span_by count table.now row size }
+    ensures { Finds buffer.entry (span_by count table.now row (length buffer.now)) result }
 {
     if count <= row {
-        return nowhere();
+        return None;
     }
-    let start = number(row, 3, table);
-    let len = number(row, 4, table);
-    if size < start + len {
-        return nowhere();
+    let start = usize::from(number(row, 3, table));
+    let end = start + usize::from(number(row, 4, table));
+    if buffer.len() < end {
+        return None;
     }
-    Span {
-        start,
-        len,
-        there: true,
-    }
-}
-
-// Where it stands in a message and a copy of so many octets.
-fn desk_span(count: usize, row: usize, message: usize, copy: usize, table: &[u16]) -> Span
-    requires { HasRows table.now count }
-    ensures { result ≡ desk_by count row message copy table.now }
-{
-    if message != copy {
-        return nowhere();
-    }
-    row_span(count, row, copy, table)
+    Some(&buffer[start..end])
 }
 
 // Is the row kept, with parent 0 and that pair?
+#[tactic(auto, unfolding(rules::specs::Values::is_plain))]
 fn is_plain(typ: u16, inst: u16, row: usize, table: &[u16]) -> bool
     requires { HasRow table.now row }
     ensures { result ≡ is_plain table.now typ inst row }
 {
-    if number(row, 0, table) != 0 {
-        return false;
-    }
-    if number(row, 1, table) != typ as usize {
-        return false;
-    }
-    if number(row, 2, table) != inst as usize {
-        return false;
-    }
-    number(row, 5, table) == 0
+    number(row, 0, table) == 0
+        && number(row, 1, table) == typ
+        && number(row, 2, table) == inst
+        && number(row, 5, table) == 0
 }
 
-// The first such row of `count`, or their count.
-fn seek_plain(count: usize, typ: u16, inst: u16, table: &[u16]) -> usize
+// The first such row of `count`. A `for`: a search over a range would say no less in its closure.
+fn seek_plain(count: usize, typ: u16, inst: u16, table: &[u16]) -> Option<usize>
     requires { HasRows table.now count }
-    ensures { result ≡ seek_plain table.now typ inst 0 count }
+    ensures { Seeks table.now typ inst count result }
 {
-    let mut found = count;
-    let mut row = 0;
-    while row < count {
-        let hit = is_plain(typ, inst, row, table);
-        found = pick(hit, row, found);
-        // A hit ends the search.
-        let next = row + 1;
-        row = pick(hit, count, next);
+    for row in 0..count {
+        if is_plain(typ, inst, row, table) {
+            return Some(row);
+        }
     }
-    found
+    None
 }
 
-// Where its value stands in the message. The first such row decides: no later one is tried.
-fn plain_span(kind: u32, typ: u16, inst: u16, message: &[u8], table: &[u16]) -> Span
-    ensures { result ≡ plain_span kind typ inst message.now table.now }
+// What the plain lookup finds: the part of the message where the value of the pair's first kept row in the body stands. The first such row decides: no later
+// one is tried.
+pub fn find_plain<'a>(
+    kind: u32,
+    typ: u16,
+    inst: u16,
+    message: &'a [u8],
+    table: &[u16],
+) -> Option<&'a [u8]>
+    ensures { Finds message.entry (plain_span kind typ inst message.now table.now) result }
 {
     let count = rows(kind, message, table);
-    let row = seek_plain(count, typ, inst, table);
-    row_span(count, row, message.len(), table)
+    let row = seek_plain(count, typ, inst, table)?;
+    row_part(count, row, message, table)
 }
 
-// The part of a buffer that stands there.
-fn part<'a>(buffer: &'a [u8], span: Span) -> &'a [u8]
-    requires { Within span (length buffer.now) }
-    ensures { Stands buffer.entry span result }
-{
-    let start = span.start;
-    let end = start + span.len;
-    &buffer[start..end]
-}
-
-// The plain lookup: the part of the message where the value of the pair's first kept row in the body stands, or the empty part.
+// The plain lookup: that part, or the empty part. It and its companion are the two that the rules name, as `desk` and `desk_found` are.
+#[tactic(auto, using(crate::proofs::Spans::stands))]
 pub fn plain<'a>(kind: u32, typ: u16, inst: u16, message: &'a [u8], table: &[u16]) -> &'a [u8]
     ensures { Plain kind typ inst message.entry table.now result }
 {
-    part(message, plain_span(kind, typ, inst, message, table))
+    find_plain(kind, typ, inst, message, table).unwrap_or(&message[..0])
 }
 
 // Does the plain lookup answer a row's part, be it empty?
+#[tactic(auto, using(crate::proofs::Spans::there))]
 pub fn plain_found(kind: u32, typ: u16, inst: u16, message: &[u8], table: &[u16]) -> bool
     ensures { PlainFound kind typ inst message.now table.now result }
 {
-    plain_span(kind, typ, inst, message, table).there
+    find_plain(kind, typ, inst, message, table).is_some()
 }
 
-// What the desk's lookup answers on a table with `count` rows, so that who asks for many rows counts them once.
+// What the desk's lookup finds on a table with `count` rows, so that who asks for many rows counts them once.
+fn desk_row<'a>(
+    count: usize,
+    row: usize,
+    right: bool,
+    message: &'a [u8],
+    copy: &'a [u8],
+    table: &[u16],
+) -> Option<&'a [u8]>
+    requires { HasRows table.now count }
+    ensures { Finds (cond right message.entry copy.entry) (desk_by count row (length message.now) (length copy.now) table.now) result }
+{
+    if message.len() != copy.len() {
+        return None;
+    }
+    if right {
+        row_part(count, row, message, table)
+    } else {
+        row_part(count, row, copy, table)
+    }
+}
+
+// That part, or the empty part of the same buffer: each branch names the one that its edit exchanges.
+#[tactic(auto, using(crate::proofs::Spans::stands))]
 pub fn desk_part<'a>(
     count: usize,
     row: usize,
@@ -227,15 +180,29 @@ pub fn desk_part<'a>(
     requires { HasRows table.now count }
     ensures { Stands (cond right message.entry copy.entry) (desk_by count row (length message.now) (length copy.now) table.now) result }
 {
-    let span = desk_span(count, row, message.len(), copy.len(), table);
+    let found = desk_row(count, row, right, message, copy, table);
     if right {
-        return part(message, span);
+        found.unwrap_or(&message[..0])
+    } else {
+        found.unwrap_or(&copy[..0])
     }
-    part(copy, span)
 }
 
-// The desk's lookup: the part of the message for the right to see subscribers, else of the copy, where the row's value stands, or
-// the empty part.
+// What the desk's lookup finds: the part of the message for the right to see subscribers, else of the copy, where the row's value stands.
+pub fn find_desk<'a>(
+    kind: u32,
+    row: usize,
+    right: bool,
+    message: &'a [u8],
+    copy: &'a [u8],
+    table: &[u16],
+) -> Option<&'a [u8]>
+    ensures { Finds (cond right message.entry copy.entry) (desk_span kind row message.now (length copy.now) table.now) result }
+{
+    desk_row(rows(kind, message, table), row, right, message, copy, table)
+}
+
+// The desk's lookup: that part, or the empty part.
 pub fn desk<'a>(
     kind: u32,
     row: usize,
@@ -250,6 +217,7 @@ pub fn desk<'a>(
 }
 
 // Does the desk's lookup answer a row's part, be it empty? The right does not bear on it.
+#[tactic(auto, using(crate::proofs::Spans::there))]
 pub fn desk_found(
     kind: u32,
     row: usize,
@@ -260,6 +228,5 @@ pub fn desk_found(
 ) -> bool
     ensures { DeskFound kind row right message.now copy.now table.now result }
 {
-    let count = rows(kind, message, table);
-    desk_span(count, row, message.len(), copy.len(), table).there
+    find_desk(kind, row, right, message, copy, table).is_some()
 }

@@ -2,108 +2,66 @@
 // can be compared.
 #![tactic(auto)]
 
-ghost use Rattle.std.specs.Prelude.{◌≡◌, length};
-
 use std::io;
-use text::{after, field, find, long, number, numbers, octets, print_octets, short};
+use text::{field, long, number, numbers, octets, print_octets, short};
 
 mod text;
 
-// Room for more numbers than the table of a message has. The contract gives only the length, which lending it needs.
-fn table_buffer() -> [u16; 8192]
-    ensures { 8192 ≡ length result }
-{
-    [0; 8192]
-}
-
-fn print_found(rt: &impl Print, found: bool) -> io::Result<()> {
-    if found {
-        return rt.write_all(b"1 ");
-    }
-    rt.write_all(b"0 ")
-}
+// More numbers than the table of a message has.
+const NUMBERS: usize = 8192;
 
 // The part is printed also where none was found: it has to be empty there.
 fn print_answer(rt: &impl Print, found: bool, part: &[u8]) -> io::Result<()> {
-    print_found(rt, found)?;
+    rt.write_all(if found { b"1 " } else { b"0 " })?;
     print_octets(rt, part)?;
     rt.write_all(b"\n")
 }
 
-fn say_plain(
-    rt: &impl Print,
-    kind: u32,
-    typ: u16,
-    inst: u16,
-    message: &[u8],
-    table: &[u16],
-) -> io::Result<()> {
+// plain KIND TYPE INSTANCE MESSAGE TABLE
+fn answer_plain(rt: &impl Print, line: &[u8]) -> io::Result<()> {
+    let kind = long(field(line, 1));
+    let typ = short(field(line, 2));
+    let inst = short(field(line, 3));
+    let mut message = [0; output::ROOM];
+    let message = octets(field(line, 4), &mut message);
+    let mut table = [0; NUMBERS];
+    let table = numbers(field(line, 5), &mut table);
     let found = lookup::plain_found(kind, typ, inst, message, table);
     print_answer(rt, found, lookup::plain(kind, typ, inst, message, table))
 }
 
-// plain KIND TYPE INSTANCE MESSAGE TABLE
-fn answer_plain(rt: &impl Print, line: &[u8]) -> io::Result<()> {
-    let kind = long(number(field(line, 1)));
-    let typ = short(number(field(line, 2)));
-    let inst = short(number(field(line, 3)));
-    let mut message = output::buffer();
-    let m = octets(field(line, 4), &mut message);
-    let mut table = table_buffer();
-    let t = numbers(field(line, 5), &mut table);
-    say_plain(rt, kind, typ, inst, &message[..m], &table[..t])
-}
-
-fn say_desk<'a>(
-    rt: &impl Print,
-    kind: u32,
-    row: usize,
-    right: bool,
-    message: &'a [u8],
-    copy: &'a [u8],
-    table: &[u16],
-) -> io::Result<()> {
-    let found = lookup::desk_found(kind, row, right, message, copy, table);
-    let part = lookup::desk(kind, row, right, message, copy, table);
-    print_answer(rt, found, part)
-}
-
 // desk KIND ROW RIGHT MESSAGE COPY TABLE
 fn answer_desk(rt: &impl Print, line: &[u8]) -> io::Result<()> {
-    let kind = long(number(field(line, 1)));
+    let kind = long(field(line, 1));
     let row = number(field(line, 2));
     let right = number(field(line, 3)) == 1;
-    let mut message = output::buffer();
-    let m = octets(field(line, 4), &mut message);
-    let mut copy = output::buffer();
-    let c = octets(field(line, 5), &mut copy);
-    let mut table = table_buffer();
-    let t = numbers(field(line, 6), &mut table);
-    say_desk(rt, kind, row, right, &message[..m], &copy[..c], &table[..t])
+    let mut message = [0; output::ROOM];
+    let message = octets(field(line, 4), &mut message);
+    let mut copy = [0; output::ROOM];
+    let copy = octets(field(line, 5), &mut copy);
+    let mut table = [0; NUMBERS];
+    let table = numbers(field(line, 6), &mut table);
+    let found = lookup::desk_found(kind, row, right, message, copy, table);
+    print_answer(
+        rt,
+        found,
+        lookup::desk(kind, row, right, message, copy, table),
+    )
 }
 
 fn answer(rt: &impl Print, line: &[u8]) -> io::Result<()> {
-    if line.len() == 0 {
-        return Ok(());
+    match line {
+        [] => Ok(()),
+        [b'p', ..] => answer_plain(rt, line),
+        _ => answer_desk(rt, line),
     }
-    if line[0] == b'p' {
-        return answer_plain(rt, line);
-    }
-    answer_desk(rt, line)
-}
-
-fn answer_all(rt: &impl Print, text: &[u8]) -> io::Result<()> {
-    let mut at = 0;
-    while at < text.len() {
-        let end = find(text, at, b'\n');
-        answer(rt, &text[at..end])?;
-        at = after(text, at, b'\n');
-    }
-    Ok(())
 }
 
 fn main(rt: HostRuntime) -> io::Result<()> {
-    let mut text = output::buffer();
+    let mut text = [0; output::ROOM];
     let n = output::fill(&mut rt.reader(), &mut text)?;
-    answer_all(&rt, &text[..n])
+    for line in text[..n].split(|octet| *octet == b'\n') {
+        answer(&rt, line)?;
+    }
+    Ok(())
 }

@@ -1,165 +1,77 @@
 // The text of a lookup: fields with blanks between them, octets in hex, numbers in decimal, commas between those of a table. `-` is
 // an empty field. What is no such text is read as something, and never outside of what is lent.
-ghost use Rattle.std.specs.Prelude.{◌≡◌, ◌≤◌, ◌<◌, length};
-ghost use Rattle.lookups.specs.Places.{From, Past, IsPrefixLen};
+ghost use Rattle.std.specs.Prelude.{◌<◌};
 
 use std::io;
-
-// The place of the first `x` from `from` on, or the end.
-pub(crate) fn find(text: &[u8], from: usize, x: u8) -> usize
-    requires { from ≤ length text.now }
-    ensures { From from (length text.now) result }
-{
-    let mut at = from;
-    while at < text.len() {
-        if text[at] == x {
-            return at;
-        }
-        at += 1;
-    }
-    at
-}
-
-// The place after it, or the end.
-pub(crate) fn after(text: &[u8], from: usize, x: u8) -> usize
-    requires { from ≤ length text.now }
-    ensures { Past from (length text.now) result }
-{
-    let at = find(text, from, x);
-    if at < text.len() {
-        return at + 1;
-    }
-    at
-}
+use wording::Sheet;
 
 // Field `k` of a line, from 0; the empty part if there are fewer.
 pub(crate) fn field<'a>(line: &'a [u8], k: usize) -> &'a [u8] {
-    let mut at = 0;
-    let mut n = 0;
-    while n < k {
-        at = after(line, at, b' ');
-        n += 1;
-    }
-    let end = find(line, at, b' ');
-    &line[at..end]
+    line.split(|octet| *octet == b' ').nth(k).unwrap_or(&[])
 }
 
 // The value of a hex digit.
-fn nibble(x: u8) -> u8
+fn nibble(digit: u8) -> u8
     ensures { result < 16 }
 {
-    if x < b'A' {
-        return x % 16;
+    if digit < b'A' {
+        digit % 16
+    } else {
+        (digit % 16 + 9) % 16
     }
-    (x % 16 + 9) % 16
 }
 
-fn least(a: usize, b: usize) -> usize
-    ensures { (result ≤ a) × (result ≤ b) }
-{
-    if a < b {
-        return a;
+// The octets of a field, as many as there is room for.
+pub(crate) fn octets<'a>(digits: &[u8], room: &'a mut [u8]) -> &'a [u8] {
+    for (octet, pair) in room.iter_mut().zip(digits.chunks_exact(2)) {
+        *octet = nibble(pair[0]) * 16 + nibble(pair[1]);
     }
-    b
+    let n = room.len().min(digits.len() / 2);
+    &room[..n]
 }
 
-// Lays the octets of a field down, as many as there is room for, and answers how many.
-pub(crate) fn octets(digits: &[u8], room: &mut [u8]) -> usize
-    ensures { IsPrefixLen result room.new }
-{
-    let count = least(digits.len() / 2, room.len());
-    let mut n = 0;
-    while n < count {
-        room[n] = nibble(digits[2 * n]) * 16 + nibble(digits[2 * n + 1]);
-        n += 1;
-    }
-    count
-}
-
-// A number with one digit more, or the largest if that is too much.
-fn shifted(value: usize, digit: u8) -> usize {
-    if 1844674407370955160 < value {
-        return usize::MAX;
-    }
-    value * 10 + (digit % 16) as usize
-}
-
+// A number, or the largest if that is too much.
 pub(crate) fn number(digits: &[u8]) -> usize {
-    let mut value = 0;
-    let mut at = 0;
-    while at < digits.len() {
-        value = shifted(value, digits[at]);
-        at += 1;
+    let mut value: usize = 0;
+    for digit in digits {
+        value = value
+            .saturating_mul(10)
+            .saturating_add(usize::from(digit % 16));
     }
     value
 }
 
 // A number as one of 16 bits, or the largest of those.
-pub(crate) fn short(x: usize) -> u16 {
-    if x < 65536 {
-        return x as u16;
-    }
-    65535
+pub(crate) fn short(digits: &[u8]) -> u16 {
+    u16::try_from(number(digits)).unwrap_or(u16::MAX)
 }
 
-// The same with 32 bits.
-pub(crate) fn long(x: usize) -> u32 {
-    if x < 4294967296 {
-        return x as u32;
-    }
-    4294967295
+// The same with 32 bits: one line each, where one for both would want a trait for the largest.
+pub(crate) fn long(digits: &[u8]) -> u32 {
+    u32::try_from(number(digits)).unwrap_or(u32::MAX)
 }
 
-fn is_empty(digits: &[u8]) -> bool {
-    if digits.len() != 1 {
-        return false;
-    }
-    digits[0] == b'-'
-}
-
-// Lays one number more down, if there is room for it.
-fn put(room: &mut [u16], n: usize, x: u16) -> usize
-    ensures room_len_unchanged { length room.new ≡ length room.old }
-    ensures upper_bound { result ≤ length room.old }
-{
-    if n < room.len() {
-        room[n] = x;
-        return n + 1;
-    }
-    room.len()
-}
-
-// Lays the numbers of a table down, as many as there is room for, and answers how many.
-pub(crate) fn numbers(digits: &[u8], room: &mut [u16]) -> usize
-    ensures { IsPrefixLen result room.new }
-{
-    if is_empty(digits) {
-        return 0;
-    }
+// The numbers of a table, as many as there is room for. A comma at the end begins no number. How many there are is known at the end alone.
+pub(crate) fn numbers<'a>(digits: &[u8], room: &'a mut [u16]) -> &'a [u16] {
     let mut n = 0;
-    let mut at = 0;
-    while at < digits.len() {
-        let end = find(digits, at, b',');
-        n = put(room, n, short(number(&digits[at..end])));
-        at = after(digits, at, b',');
+    if !matches!(digits, [] | [b'-']) {
+        let digits = digits.strip_suffix(b",").unwrap_or(digits);
+        for part in digits.split(|octet| *octet == b',') {
+            if n == room.len() {
+                break;
+            }
+            room[n] = short(part);
+            n += 1;
+        }
     }
-    n
+    &room[..n]
 }
 
-// Room for the digits of the largest part.
-fn digit_room() -> [u8; 131072]
-    ensures { 131072 ≡ length result }
-{
-    [0; 131072]
-}
-
-// The octets of a part in hex, by way of `out`.
-fn print_by(rt: &impl Print, part: &[u8], out: &mut [u8]) -> io::Result<()> {
-    let n = wording::hexes(part, 0, out);
-    rt.write_all(output::first(out, n))
-}
-
+// The octets of a part in hex, two digits each.
 pub(crate) fn print_octets(rt: &impl Print, part: &[u8]) -> io::Result<()> {
-    let mut out = digit_room();
-    print_by(rt, part, &mut out)
+    let mut out = [0; 2 * output::ROOM];
+    let mut sheet = Sheet::new(&mut out, 0);
+    sheet.hexes(part);
+    let n = sheet.at();
+    rt.write_all(output::first(&out, n))
 }

@@ -1,62 +1,56 @@
 -- A list of numbers as octets, number by number. Assumes nothing.
---     length-octets, high, low, take-octets   its length, its octets and its start
---     five-small, five-stored                 a verdict's five numbers
---     answer-small, answer-stored             the same and a length
-use mathlib.Core.Path.{◌≡◌, refl, ap}
-use mathlib.Core.List.{List, [], ◌∷◌}
-use Prim.Native.Nat.{ℕ, zero, suc, ◌*◌, ◌/◌, ◌%◌, ◌≤◌, ◌<◌}
+--     laid-more, laid-all   one number more of those that are laid, and all of them
+--     fits, stored          a table that fits: the header's octets, then the rows'
+use mathlib.Core.Bool.{false}
+use mathlib.Core.Path.{◌≡◌, refl, ap, ◌∙◌}
+use mathlib.Core.List.{List, [], ◌∷◌, ◌++◌, append-nil}
+use Prim.Native.Nat.{ℕ, zero, suc, ◌+◌, ◌-◌, ◌*◌, ◌/◌, ◌%◌, ◌≤◌, ◌<◌}
 use native.Mathlib.Omega.{arith}
-use borrow.Author.Tests.{lt-ltb, le-ltb}
-use lib.ListN.{length, get_or, take}
-use lib.Seq.{take-nil, sets-eq}
-use Rattle.rules.specs.Table.{laid}
-use Rattle.rules.specs.Octets.{octets_of, five, five_laid, six, answer_laid}
-use Rattle.rules.specs.declared.Verdict.{Verdict}
-use Rattle.octets.specs.Stored.{put2}
-
-pub length-octets : (xs : List ℕ) → length (octets_of xs) ≡ 2 * length xs
-unfolding octets_of
-length-octets [] = refl
-length-octets (x ∷ xs) = omega (arith, length-octets xs)
+use native.Mathlib.Numerals.{add-one}
+use lib.ListN.{length, get_or, set, take, drop, length-drop, drop_of_length-le}
+use lib.Seq.{take_all, drop-drop}
+use borrow.Author.Tests.{le-ltb}
+use borrow.Rule.Slice.PartMut.{put_mid, mid_of}
+use Rattle.rules.specs.Sizes.{most_rows, row_numbers, used}
+use Rattle.rules.specs.Table.{numbers_by, laid}
+use Rattle.rules.specs.Octets.{octets_of}
+use Rattle.octets.specs.Stored.{put2, misfit}
 
 next : (i : ℕ) → 2 * suc i ≡ suc (suc (2 * i))
 next i = omega arith
 
-pub high : (xs : List ℕ) (i : ℕ) → get_or (octets_of xs) (2 * i) 0 ≡ get_or xs i 0 / 256
-unfolding octets_of
-high [] i = refl
-high (x ∷ xs) zero = refl
-high (x ∷ xs) (suc i) = rw (next i) (high xs i)
+two-more : (xs d : List ℕ) (i : ℕ) → i < length xs → 2 * length xs ≤ length d
+    → set (set (laid (octets_of (take i xs)) d) (2 * i) (get_or xs i 0 / 256)) (suc (2 * i)) (get_or xs i 0 % 256) ≡ laid (octets_of (take (suc i) xs)) d
+unfolding laid octets_of
+two-more [] d i h l = absurd (omega arith)
+two-more (x ∷ xs) [] i h l = absurd (omega arith)
+two-more (x ∷ xs) (p ∷ []) i h l = absurd (omega arith)
+two-more (x ∷ xs) (p ∷ q ∷ d) zero h l = refl
+two-more (x ∷ xs) (p ∷ q ∷ d) (suc i) h l = rw (next i) (ap (λ (r : List ℕ). x / 256 ∷ x % 256 ∷ r) (two-more xs d i (omega arith) (omega arith)))
 
-pub low : (xs : List ℕ) (i : ℕ) → get_or (octets_of xs) (suc (2 * i)) 0 ≡ get_or xs i 0 % 256
-unfolding octets_of
-low [] i = refl
-low (x ∷ xs) zero = refl
-low (x ∷ xs) (suc i) = rw (next i) (low xs i)
+pub laid-more : (xs d : List ℕ) (i : ℕ) → i < length xs → 2 * length xs ≤ length d
+    → put2 (laid (octets_of (take i xs)) d) (2 * i) (get_or xs i 0) ≡ laid (octets_of (take (i + 1) xs)) d
+laid-more xs d i h l = rw (add-one (2 * i), add-one i) (two-more xs d i h l)
 
-pub take-octets : (n : ℕ) (xs : List ℕ) → take (2 * n) (octets_of xs) ≡ octets_of (take n xs)
-unfolding octets_of
-take-octets zero xs = refl
-take-octets (suc n) [] = take-nil (2 * suc n)
-take-octets (suc n) (x ∷ xs) = rw (next n) (ap (λ (l : List ℕ). x / 256 ∷ x % 256 ∷ l) (take-octets n xs))
+pub laid-all : (xs d : List ℕ) (i : ℕ) → length xs ≤ i → laid (octets_of (take i xs)) d ≡ laid (octets_of xs) d
+laid-all xs d i l = rw (take_all i xs l)
 
-module _ (v : Verdict) (l : List ℕ) where
-  pub five-small : length l < 10 → l ≡ five_laid v l
-  unfolding five_laid
-  five-small h = rw (lt-ltb (length l) 10 h)
+module _ (rows : List ℕ) (n kept typ kind : ℕ) (table : List ℕ) where
+  pub fits : n ≤ most_rows → kept ≤ n → row_numbers * n ≤ length rows → 2 * used n ≤ length table → misfit rows n kept table ≡ false
+  unfolding misfit
+  fits few most there room = rw (le-ltb most_rows n few, le-ltb n kept most, le-ltb (length rows) (row_numbers * n) there, le-ltb (length table) (2 * used n) room)
 
-  pub five-stored : 10 ≤ length l → put2 (put2 (put2 (put2 (put2 l 0 v.code) 2 v.cause) 4 v.place) 6 v.typ) 8 v.inst ≡ five_laid v l
-  unfolding five_laid laid octets_of
-  five-stored h = rw (le-ltb (length l) 10 h) (sets-eq (octets_of (five v)) l 0 h)
+  abbrev head : List ℕ
+  head = octets_of (n ∷ kept ∷ 6 ∷ used n ∷ typ ∷ kind ∷ [])
 
-  module _ (n : ℕ) where
-    pub answer-small : length l < 12 → l ≡ answer_laid v n l
-    unfolding answer_laid
-    answer-small h = rw (lt-ltb (length l) 12 h)
+  abbrev rest : List ℕ
+  rest = octets_of (take (6 * n) rows)
 
-    -- the length stands after the five
-    pub answer-stored : 12 ≤ length l → put2 (five_laid v l) 10 n ≡ answer_laid v n l
-    unfolding answer_laid laid octets_of
-    answer-stored h =
-        rw (le-ltb (length l) 12 h, ← five-stored (omega (arith, h)))
-        (sets-eq (octets_of (six v n)) l 0 h)
+  pub stored : {headed part : List ℕ} → headed ≡ head ++ drop 12 table → part ≡ laid rest (mid_of 12 (length headed - 12) headed)
+      → put_mid 12 (length headed - 12) headed part ≡ laid (octets_of (numbers_by n kept typ kind rows)) table
+  unfolding laid octets_of
+  stored {headed} {part} h e =
+      let all : take (length headed - 12) (drop 12 headed) ≡ drop 12 headed = take_all (length headed - 12) (drop 12 headed) (omega (arith, length-drop 12 headed)) in
+      let after : drop (length headed - 12) (drop 12 headed) ≡ [] = drop_of_length-le (drop 12 headed) (omega (arith, length-drop 12 headed)) in
+      let size : 12 + length rest ≡ length (octets_of (numbers_by n kept typ kind rows)) = omega arith in
+      rw (after, append-nil, e, all, h) (ap (λ (q : List ℕ). head ++ (rest ++ q)) (drop-drop (length rest) 12 table ∙ ap (λ (j : ℕ). drop j table) size))

@@ -18,6 +18,7 @@ use Rattle.wording.proofs.Turns.{left-length, right-length, sum_of, each-length}
 use Rattle.phrases.specs.Texts.{octets_of, Text, slot_octet, every, key_for, key_of, text_in}
 use Rattle.phrases.specs.Table.{slots, texts, text_for, itself, unless_zero, element, verdicts, pages, rows, endings, marks, covers, headers, voids}
 use Rattle.phrases.specs.Names.{entry_of, before_blanks, trimmed, element_name}
+use Rattle.phrases.proofs.Search.{octet_numbers}
 use Rattle.phrases.specs.Sentences.{some_decimal, slot_number, worded, slot_text, piece_text, filled, said}
 
 abbrev larger : ℕ → ℕ → ℕ
@@ -28,11 +29,6 @@ larger a c = a + (c - a)
 unfoldable most : (List ℕ → ℕ) → ℕ → List Text → ℕ
 most f s [] = 0
 most f s (t ∷ ts) = larger (cond (eqb t.section s) (f (octets_of t.pieces)) 0) (most f s ts)
-
--- numbers are octets, so that a key has one section
-unfoldable octet_numbers : List Text → Bool
-octet_numbers [] = true
-octet_numbers (t ∷ ts) = leb t.number every && octet_numbers ts
 
 capped : (n : ℕ) → cond (ltb n every) n every ≤ 255
 capped n = go (ltb n every) refl

@@ -1,3 +1,4 @@
 pub mod Search
+pub mod Slots
 pub mod Trimming
 pub mod Lengths

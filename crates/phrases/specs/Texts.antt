@@ -1,8 +1,7 @@
--- Texts by section and number: what a text is made of, which one a number has, and how a list of them is laid down in tables. Assumes nothing.
-use Rattle.std.specs.Prelude.{◌≡◌, ℕ, ◌+◌, ◌-◌, ◌*◌, ◌≤◌, cond, ◌||◌, List, [], ◌∷◌, ◌++◌, eqb, ltb, length, take, drop, get_or}
+-- Texts by section and number: what a text is made of, and which one a number has. Assumes nothing.
+use Rattle.std.specs.Prelude.{ℕ, ◌+◌, ◌*◌, cond, ◌||◌, List, [], ◌∷◌, ◌++◌, eqb, ltb}
 use Prim.Native.String.{String}
 use Rattle.phrases.specs.Words.{words}
-use Rattle.phrases.specs.declared.finding.Stretch.{Stretch}
 
 -- a piece of a text: words, or a slot to be filled
 pub data Piece : Type 0 where
@@ -38,34 +37,3 @@ key_of t = 256 * t.section + t.number
 unfoldable pub text_in : List Text → ℕ → ℕ → List ℕ
 text_in [] key rest = []
 text_in (t ∷ ts) key rest = cond (eqb (key_of t) key || eqb (key_of t) rest) (octets_of t.pieces) (text_in ts key rest)
-
--- ---- in tables
-
-unfoldable pub joined : List Text → List ℕ
-joined [] = []
-joined (t ∷ ts) = octets_of t.pieces ++ joined ts
-
-unfoldable pub keys_of : List Text → List ℕ
-keys_of [] = []
-keys_of (t ∷ ts) = key_of t ∷ keys_of ts
-
-unfoldable pub lengths_of : List Text → List ℕ
-lengths_of [] = []
-lengths_of (t ∷ ts) = length (octets_of t.pieces) ∷ lengths_of ts
-
--- where the text of a key stands among all in one row, of which the first begins at a place
-unfoldable pub stands_at : List ℕ → List ℕ → ℕ → ℕ → ℕ → Stretch
-stands_at [] lengths key rest at = record { start = at; end = at }
-stands_at (k ∷ keys) lengths key rest at =
-    cond (eqb k key || eqb k rest) (record { start = at; end = at + get_or lengths 0 0 }) (stands_at keys (drop 1 lengths) key rest (at + get_or lengths 0 0))
-
--- a length of a table, which is small
-pub record LengthAt (lengths : List ℕ) (n r : ℕ) : Type 0 where
-  pub is : r ≡ get_or lengths n 0
-  pub low : r ≤ 65535
-
--- a stretch of a row holds a text
-pub record Holds (s : Stretch) (all text : List ℕ) : Type 0 where
-  pub ordered : s.start ≤ s.end
-  pub within : s.end ≤ length all
-  pub part : take (s.end - s.start) (drop s.start all) ≡ text

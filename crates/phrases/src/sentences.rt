@@ -1,122 +1,88 @@
 // A text with its slots filled, of a run of numbers and with a table of the elements' names.
-ghost use Rattle.std.specs.Prelude.{◌≡◌, ◌≤◌};
-ghost use Rattle.wording.specs.Puts.{Puts};
-ghost use Rattle.wording.specs.Pieces.{left_of_room};
+ghost use Rattle.std.specs.Prelude.{◌≡◌};
+ghost use Rattle.wording.specs.Sheets.{Writes};
+ghost use Rattle.phrases.specs.Sections.{number_of};
 ghost use Rattle.phrases.specs.Table.{messages, text_for};
-ghost use Rattle.phrases.specs.Sentences.{some_decimal, slot_number, worded, slot_text, piece_text, filled, said};
+ghost use Rattle.phrases.specs.Laid.{what_of, section_of};
+ghost use Rattle.phrases.specs.Sentences.{worded, slot_text, piece_text, said};
 
 use crate::finding::text;
 use crate::names::element;
-use crate::runs::{number_at, octet_at};
+use crate::runs::get_or;
+use crate::sections::Section;
 use crate::table;
+use wording::Sheet;
 
-fn some_number(n: u16, at: usize, out: &mut [u8]) -> usize
-    ensures { Puts (some_decimal n) at out.old result out.new }
-{
-    if n == 0 {
-        return at;
+// What a slot says of its number: itself, itself unless it is 0, the name of its element, or its text in a section.
+#[derive(Clone, Copy)]
+pub(crate) enum Said {
+    Itself,
+    UnlessZero,
+    Element,
+    Text(Section),
+}
+
+// What sentences are filled with: a table of the elements' names, and the numbers that are said.
+#[derive(Clone, Copy)]
+pub struct Words<'a> {
+    pub names: &'a [u8],
+    pub run: &'a [u16],
+}
+
+impl Words<'_> {
+    // The text that a section has for a number, with its slots filled.
+    pub fn say(&self, section: Section, number: u16, sheet: &mut Sheet)
+        ensures { Writes (said self.now.names.now self.now.run.now (number_of section) number) sheet.old sheet.new }
+    {
+        self.say_of(section.number(), number, sheet);
     }
-    wording::number(n, at, out)
-}
 
-// A text with no slot, at the left of a column.
-fn name(section: u8, number: u16, width: usize, at: usize, out: &mut [u8]) -> usize
-    ensures { Puts (left_of_room width (text_for section number)) at out.old result out.new }
-{
-    let octets = table::octets();
-    wording::left(text(&octets, section, number), width, at, out)
-}
-
-// What is said of the number `n`, by what the slot asks for.
-fn word(
-    names: &[u8],
-    what: u8,
-    width: usize,
-    section: u8,
-    n: u16,
-    at: usize,
-    out: &mut [u8],
-) -> usize
-    ensures { Puts (worded names.now what width section n) at out.old result out.new }
-{
-    if what == 0 {
-        return wording::right(n, width, at, out);
+    // The same of a section by its number, which may be any; where there is none of that number, nothing is said.
+    pub fn say_of(&self, section: u8, number: u16, sheet: &mut Sheet)
+        ensures { Writes (said self.now.names.now self.now.run.now section number) sheet.old sheet.new }
+    {
+        for &octet in text(section, number) {
+            self.piece(octet, sheet);
+        }
     }
-    if what == 1 {
-        return some_number(n, at, out);
+
+    // An octet under 128 is itself.
+    fn piece(&self, octet: u8, sheet: &mut Sheet)
+        ensures { Writes (piece_text self.now.names.now self.now.run.now octet) sheet.old sheet.new }
+    {
+        match octet {
+            0..=127 => sheet.put(octet),
+            _ => self.slot(octet - 128, sheet),
+        }
     }
-    if what == 2 {
-        return wording::left(element(names, n), width, at, out);
+
+    fn slot(&self, slot: u8, sheet: &mut Sheet)
+        ensures { Writes (slot_text self.now.names.now self.now.run.now slot) sheet.old sheet.new }
+    {
+        let (said, index, width) = get_or(table::slots(), usize::from(slot), (Said::Itself, 0, 0));
+        let n = get_or(self.run, usize::from(index), 0);
+        self.word(said, n, usize::from(width), sheet);
     }
-    name(section, n, width, at, out)
-}
 
-fn wide(octet: u8) -> usize
-    ensures { result ≡ octet }
-{
-    octet as usize
-}
-
-// Number `j` of a slot.
-fn slot_number(s: usize, j: usize) -> u8
-    requires { (s ≤ 127) × (j ≤ 3) }
-    ensures { result ≡ slot_number s j }
-{
-    let slots = table::slots();
-    octet_at(&slots, 4 * s + j)
-}
-
-fn slot(names: &[u8], run: &[u16], s: usize, at: usize, out: &mut [u8]) -> usize
-    requires { s ≤ 127 }
-    ensures { Puts (slot_text names.now run.now s) at out.old result out.new }
-{
-    let n = number_at(run, wide(slot_number(s, 1)));
-    let width = wide(slot_number(s, 2));
-    word(
-        names,
-        slot_number(s, 0),
-        width,
-        slot_number(s, 3),
-        n,
-        at,
-        out,
-    )
-}
-
-// An octet under 128 is itself.
-fn piece(names: &[u8], run: &[u16], octet: u8, at: usize, out: &mut [u8]) -> usize
-    ensures { Puts (piece_text names.now run.now octet) at out.old result out.new }
-{
-    if octet < 128 {
-        return wording::put(octet, at, out);
+    fn word(&self, said: Said, n: u16, width: usize, sheet: &mut Sheet)
+        ensures { Writes (worded self.now.names.now (what_of said) width (section_of said) n) sheet.old sheet.new }
+    {
+        match said {
+            Said::Itself => sheet.right(n, width),
+            Said::UnlessZero => {
+                if n != 0 {
+                    sheet.number(n);
+                }
+            }
+            Said::Element => sheet.left(element(self.names, n), width),
+            Said::Text(section) => sheet.left(text(section.number(), n), width),
+        }
     }
-    slot(names, run, wide(octet - 128), at, out)
-}
-
-fn fill(text: &[u8], names: &[u8], run: &[u16], at: usize, out: &mut [u8]) -> usize
-    ensures { Puts (filled names.now run.now text.now) at out.old result out.new }
-{
-    let mut to = at;
-    let mut n = 0;
-    while n < text.len() {
-        to = piece(names, run, text[n], to, out);
-        n += 1;
-    }
-    to
-}
-
-// The text that a section has for a number, with its slots filled.
-pub fn say(section: u8, number: u16, names: &[u8], run: &[u16], at: usize, out: &mut [u8]) -> usize
-    ensures { Puts (said names.now run.now section number) at out.old result out.new }
-{
-    let octets = table::octets();
-    fill(text(&octets, section, number), names, run, at, out)
 }
 
 // A message's name by its type.
-pub fn message_name(typ: u16, at: usize, out: &mut [u8]) -> usize
-    ensures { Puts (text_for messages typ) at out.old result out.new }
+pub fn message_name(typ: u16, sheet: &mut Sheet)
+    ensures { Writes (text_for messages typ) sheet.old sheet.new }
 {
-    let octets = table::octets();
-    wording::copy(text(&octets, 1, typ), at, out)
+    sheet.copy(text(Section::Messages.number(), typ));
 }

@@ -1,14 +1,11 @@
--- Small facts of verdicts and tests. Assumes nothing.
+-- Small facts of tests and of parts. Assumes nothing.
 use mathlib.Core.Path.{◌≡◌, refl}
 use mathlib.Core.Bool.{Bool, true, false, cond, not}
-use Prim.Native.Nat.{ℕ}
+use mathlib.Core.List.{List}
+use Prim.Native.Nat.{ℕ, ◌-◌}
+use lib.ListN.{length, take, drop, length-drop}
+use lib.Seq.{take_all}
 use native.Mathlib.Omega.{arith}
-use borrow.Author.Tests.{le-ltb}
-use Rattle.rules.specs.Verdicts.{refuses}
-use Rattle.rules.specs.declared.Verdict.{Verdict}
-
-pub accepting : (v : Verdict) → v.code ≡ 0 → refuses v ≡ false
-accepting v e = le-ltb 0 v.code (omega arith)
 
 pub cond_yes : {A : Type 0} (c : Bool) (x y : A) → c ≡ true → cond c x y ≡ x
 cond_yes c x y e = rw e
@@ -26,3 +23,7 @@ not-not false e n = let z : ◌≡◌ {A = ℕ} 0 1 = cc in absurd (omega arith)
 
 pub never : {A : Type 0} → false ≡ true → A
 never e = let z : ◌≡◌ {A = ℕ} 0 1 = cc in absurd (omega arith)
+
+-- what is left of a part
+pub rest-is : (xs : List ℕ) (i : ℕ) → take (length xs - i) (drop i xs) ≡ drop i xs
+rest-is xs i = take_all (length xs - i) (drop i xs) (simp length-drop (omega arith))

@@ -1,13 +1,15 @@
 -- An element that is counted by itself leaves its row as six numbers, and what it counts is added: the same as if it were counted with the others.
 -- Assumes nothing.
 --     counts-joined   what it counts          row-alone   its row          row_put   the same row, where it belongs
-use mathlib.Core.Path.{◌≡◌, refl, ◌∙◌}
+use mathlib.Core.Path.{◌≡◌, refl, sym, ap, ◌∙◌}
 use mathlib.Core.Bool.{Bool, true, false, cond}
+use Rattle.std.specs.Prelude.{Option, Some, None}
 use mathlib.Core.List.{List, [], ◌∷◌}
-use Prim.Native.Nat.{ℕ, zero, suc, ◌+◌, ◌-◌, ◌*◌, ◌≤◌}
+use Prim.Native.Nat.{ℕ, zero, suc, ◌+◌, ◌-◌, ◌*◌, ◌≤◌, ◌<◌}
 use native.Mathlib.Omega.{arith}
 use lib.Dec.{eqb, ltb, leb}
 use lib.ListN.{length, set, length-set}
+use lib.Seq.{set_out}
 use Rattle.rules.specs.Sizes.{row_numbers}
 use Rattle.rules.specs.Standing.{Item, kept, void}
 use Rattle.rules.specs.Table.{row}
@@ -62,10 +64,26 @@ put-length rows n a b c d e f = go (leb (row_numbers * n + row_numbers) (length 
     go true = simp length-set
     go false = refl
 
+-- the last of them first, or none
+pub blank_next : (rows : List ℕ) (m j : ℕ) → m < j → blanks (put_numbers rows (j - 1) 0 0 0 0 0 0) m (j - 1 - m) ≡ blanks rows m (j - m)
+unfolding blanks
+blank_next rows m j l =
+    let n : j - m ≡ suc (j - 1 - m) = omega arith in
+    let at : j - 1 ≡ m + (j - 1 - m) = omega arith in
+    ap (λ (i : ℕ). blanks (put_numbers rows i 0 0 0 0 0 0) m (j - 1 - m)) at ∙ sym (ap (blanks rows m) n)
+
+pub blank_none : (rows : List ℕ) (m j : ℕ) → j ≤ m → blanks rows m (j - m) ≡ rows
+unfolding blanks
+blank_none rows m j l = let n : j - m ≡ 0 = omega arith in ap (blanks rows m) n
+
 blanks-length : (rows : List ℕ) (m n : ℕ) → length (blanks rows m n) ≡ length rows
 unfolding blanks
 blanks-length rows m zero = refl
 blanks-length rows m (suc n) = blanks-length (put_numbers rows (m + n) 0 0 0 0 0 0) m n ∙ put-length rows (m + n) 0 0 0 0 0 0
+
+-- past the rows there is no standing to write
+pub stand_out : (rows : List ℕ) (m : ℕ) → length rows ≤ row_numbers * m - 1 → set rows (row_numbers * m - 1) void ≡ rows
+stand_out rows m l = set_out rows (row_numbers * m - 1) void l
 
 stand-length : (rows : List ℕ) (m : ℕ) → length (stand_void rows m) ≡ length rows
 unfolding stand_void
@@ -83,6 +101,6 @@ back-length m n rows = go (ltb m n)
     go true = stand-length (blanks rows m (n - m)) m ∙ blanks-length rows m (n - m)
     go false = refl
 
-pub row-length : (wrote : Bool) (rows : List ℕ) (n : ℕ) (xs : List ℕ) (m : ℕ) → length (row_if wrote rows n xs m) ≡ length rows
-row-length false rows n xs m = refl
-row-length true rows n xs m = back-length m (n + 1) (row_laid rows n xs) ∙ put-length rows n _ _ _ _ _ _
+pub row-length : (rows : List ℕ) (n : ℕ) (row : Option (List ℕ)) (m : ℕ) → length (row_if rows n row m) ≡ length rows
+row-length rows n None m = refl
+row-length rows n (Some xs) m = back-length m (n + 1) (row_laid rows n xs) ∙ put-length rows n _ _ _ _ _ _

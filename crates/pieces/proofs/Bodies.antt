@@ -81,9 +81,9 @@ idle-fits k c f = record {
 few-none : (n : ℕ) → Few no_counts n
 few-none n = record { kept = omega arith; rows = omega arith }
 
-pub entry-sized : (k : ℕ) (h : List ℕ) → Heads k h (length_field h + 4) → Sized k (entry_by h)
+pub entry_sized : (k : ℕ) (h : List ℕ) → Heads k h (length_field h + 4) → Sized k (entry_by h)
 unfolding entry_by
-entry-sized k h x = record {
+entry_sized k h x = record {
   slots = refl;
   bytes = refl;
   deep = omega arith;
@@ -106,4 +106,4 @@ body-fits k h = go (refuses (first (opening_checks book k h (length_field h + 4)
   where
     go : (a : Bool) → refuses (first (opening_checks book k h (length_field h + 4))) ≡ a → Fits k (cond a (idle_by no_counts) (settle_top k (entry_by h)))
     go true e = idle-fits k no_counts (few-none 0)
-    go false e = settle-fits k (entry_by h) (entry-sized k h (heads k h (length_field h + 4) e)) (entry-have h)
+    go false e = settle-fits k (entry_by h) (entry_sized k h (heads k h (length_field h + 4) e)) (entry-have h)

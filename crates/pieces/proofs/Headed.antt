@@ -1,19 +1,19 @@
 -- The octets of an element's header, its first value octet, and what they do to the walk: one law for each way out of the code. Assumes nothing.
 use mathlib.Core.Path.{◌≡◌, refl, ap, ◌∙◌}
-use mathlib.Core.Bool.{Bool, true, false, cond}
+use mathlib.Core.Bool.{true, false, cond}
+use Rattle.std.specs.Prelude.{Option, None}
 use mathlib.Core.List.{List, [], ◌∷◌}
 use Prim.Native.Nat.{ℕ, suc, ◌+◌, ◌≤◌, ◌<◌}
 use native.Mathlib.Omega.{arith}
 use borrow.Author.Tests.{eq-eqb, ne_eqb, lt-ltb, le-ltb}
 use lib.Dec.{eqb, ltb}
 use lib.ListN.{length, get_or, take, drop}
-use Rattle.rules.specs.Sizes.{row_numbers}
 use Rattle.rules.specs.Framing.{element_header, value_length}
 use Rattle.pieces.specs.declared.Going.{Going}
-use Rattle.pieces.specs.declared.Walked.{Walked}
-use Rattle.pieces.specs.Coded.{top_of, stop, Fed, fed_with, take_by, gather_by, pass_one, further_by, headed_by, eat_by, eat_all_by}
+use Rattle.pieces.specs.declared.Stride.{Stride}
+use Rattle.pieces.specs.Coded.{top_of, stop, Fed, fed_with, take_by, gather_by, pass_one, headed_by, eat_by, eat_all_by}
 use Rattle.pieces.proofs.Accepting.{cond_yes, cond_no}
-use Rattle.pieces.specs.Agreements.{Wrote, Ready, and_then, HeadStrode, Strode}
+use Rattle.pieces.specs.Agreements.{Wrote, Takes, Ready, and_then, HeadStrode, Strode}
 
 -- ---- a header is whole
 
@@ -64,58 +64,61 @@ module _ (k : ℕ) (w : Going) (rows : List ℕ) where
 -- ---- what is written
 
 -- the same of a function that is equal everywhere
-pub wrote_as : {r : Going} {b : Bool} {row : List ℕ} {n : ℕ} (f g : List ℕ → Fed) → ((rows : List ℕ) → g rows ≡ f rows) → Wrote r b row n f → Wrote r b row n g
+pub wrote_as : {r : Going} {row : Option (List ℕ)} {n : ℕ} (f g : List ℕ → Fed) → ((rows : List ℕ) → g rows ≡ f rows) → Wrote r row n f → Wrote r row n g
 wrote_as f g e w = record {
   going = λ rows. ap (λ (t : Fed). t.going) (e rows) ∙ w.going rows;
   rows_left = λ rows. ap (λ (t : Fed). t.rows) (e rows) ∙ w.rows_left rows;
-  long = w.long;
 }
 
 -- nothing
-pub wrote_none : (r : Going) (row : List ℕ) (n : ℕ) → length row ≡ row_numbers → Wrote r false row n (fed_with r)
-wrote_none r row n l = record { going = λ rows. refl; rows_left = λ rows. refl; long = l }
+pub wrote_none : (r : Going) (n : ℕ) → Wrote r None n (fed_with r)
+wrote_none r n = record { going = λ rows. refl; rows_left = λ rows. refl }
 
 -- ---- the ways out of `headed`
 
-module _ (k : ℕ) (w : Going) (rest : List ℕ) {row : List ℕ} where
-  module _ (l : length row ≡ row_numbers) where
-    pub strode_cut : {g : Going} → (top_of w).left < element_header + value_length w.some → g ≡ stop w
-        → HeadStrode k w rest (record { going = g; taken = 0; wrote = false }) row
-    unfolding eat_all_by
-    strode_cut {g} lt e = record {
-      most = omega arith;
-      few = omega arith;
-      wrote = rw e (wrote_as (fed_with (stop w)) _ (λ rows. ap (and_then k []) (headed-cut k w rows lt)) (wrote_none (stop w) row w.counts.rows l));
-    }
+-- nothing of the rest is taken
+abbrev pub waited : Going → Stride Going
+waited w = record { state = w; taken = 0; row = None }
 
-    pub strode_waits : element_header + value_length w.some ≤ (top_of w).left → (value_length w.some ≡ 0 → ⊥)
-        → HeadStrode k w rest (record { going = w; taken = 0; wrote = false }) row
-    unfolding eat_all_by
-    strode_waits le n = record {
-      most = omega arith;
-      few = omega arith;
-      wrote = wrote_as (fed_with w) _ (λ rows. ap (and_then k []) (headed-waits k w rows le n)) (wrote_none w row w.counts.rows l);
-    }
+-- one octet more was taken before
+abbrev pub with_taken : Stride Going → ℕ → Stride Going
+with_taken s n = record { state = s.state; taken = n + s.taken; row = s.row }
 
-  pub strode_empty : {g : Going} → element_header + value_length w.some ≤ (top_of w).left → value_length w.some ≡ 0
-      → Wrote g true row w.counts.rows (take_by k w 0 0) → HeadStrode k w rest (record { going = g; taken = 0; wrote = true }) row
+module _ (k : ℕ) (w : Going) (rest : List ℕ) where
+  pub strode_cut : (top_of w).left < element_header + value_length w.some → HeadStrode k w rest (waited (stop w))
   unfolding eat_all_by
-  strode_empty le e t = record {
+  strode_cut lt = record {
     most = omega arith;
     few = omega arith;
-    wrote = wrote_as (take_by k w 0 0) _ (λ rows. ap (and_then k []) (headed-empty k w rows le e)) t;
+    wrote = wrote_as (fed_with (stop w)) _ (λ rows. ap (and_then k []) (headed-cut k w rows lt)) (wrote_none (stop w) w.counts.rows);
   }
 
-  pub strode_first : {g : Going} → Ready w → w.have ≡ 4 → 0 < length rest → element_header + value_length w.some ≤ (top_of w).left → (value_length w.some ≡ 0 → ⊥)
-      → Wrote g true row w.counts.rows (take_by k w (get_or rest 0 0) 1) → HeadStrode k w rest (record { going = g; taken = 1; wrote = true }) row
+  pub strode_waits : element_header + value_length w.some ≤ (top_of w).left → (value_length w.some ≡ 0 → ⊥) → HeadStrode k w rest (waited w)
   unfolding eat_all_by
-  strode_first ready four some le n t =
+  strode_waits le n = record {
+    most = omega arith;
+    few = omega arith;
+    wrote = wrote_as (fed_with w) _ (λ rows. ap (and_then k []) (headed-waits k w rows le n)) (wrote_none w w.counts.rows);
+  }
+
+  pub strode_empty : {r : Stride Going} → element_header + value_length w.some ≤ (top_of w).left → value_length w.some ≡ 0 → Takes k w 0 0 r → HeadStrode k w rest r
+  unfolding eat_all_by
+  strode_empty {r} le e t = record {
+    most = omega (arith, t.taken);
+    few = omega (arith, t.taken);
+    wrote = rw t.taken (wrote_as (take_by k w 0 0) _ (λ rows. ap (and_then k []) (headed-empty k w rows le e)) t.wrote);
+  }
+
+  pub strode_first : {r : Stride Going} → Ready w → w.have ≡ 4 → 0 < length rest → element_header + value_length w.some ≤ (top_of w).left → (value_length w.some ≡ 0 → ⊥)
+      → Takes k w (get_or rest 0 0) 1 r → HeadStrode k w rest r
+  unfolding eat_all_by
+  strode_first {r} ready four some le n t =
       let d : take 1 rest ≡ get_or rest 0 0 ∷ [] = first_of rest some in record {
-        most = omega arith;
-        few = omega arith;
-        wrote = wrote_as (take_by k w (get_or rest 0 0) 1) _
+        most = omega (arith, t.taken);
+        few = omega (arith, t.taken);
+        wrote = rw t.taken (wrote_as (take_by k w (get_or rest 0 0) 1) _
             (λ rows. rw d (ap (and_then k (get_or rest 0 0 ∷ [])) (headed-waits k w rows le n)
-            ∙ ate_four k w rows (get_or rest 0 0) ready.going ready.none ready.inside (omega arith))) t;
+            ∙ ate_four k w rows (get_or rest 0 0) ready.going ready.none ready.inside (omega arith))) t.wrote);
       }
     where
       first_of : (xs : List ℕ) → 0 < length xs → take 1 xs ≡ get_or xs 0 0 ∷ []
@@ -128,46 +131,45 @@ front : (n : ℕ) (xs : List ℕ) → 0 < length xs → take (1 + n) xs ≡ get_
 front n [] l = absurd (omega arith)
 front n (y ∷ xs) l = let e : 1 + n ≡ suc n = omega arith in rw e
 
-module _ (k : ℕ) (w : Going) (part : List ℕ) {row : List ℕ} (ready : Ready w) (some : 0 < length part) where
-  pub one-few : {g : Going} → length row ≡ row_numbers → w.have < 3 → g ≡ gather_by w (get_or part 0 0) → Strode k w part (record { going = g; taken = 1; wrote = false }) row
+module _ (k : ℕ) (w : Going) (part : List ℕ) (ready : Ready w) (some : 0 < length part) where
+  pub one_few : {g : Going} → w.have < 3 → g ≡ gather_by w (get_or part 0 0) → Strode k w part (record { state = g; taken = 1; row = None })
   unfolding eat_all_by gather_by
-  one-few {g} l h e =
+  one_few {g} h e =
       let d : take 1 part ≡ get_or part 0 0 ∷ [] = front 0 part some in record {
         least = omega arith;
         most = omega arith;
         wrote = rw e (wrote_as (fed_with (gather_by w (get_or part 0 0))) _
-            (λ rows. rw d (ate_few k w rows (get_or part 0 0) ready.going ready.none ready.inside h)) (wrote_none (gather_by w (get_or part 0 0)) row w.counts.rows l));
+            (λ rows. rw d (ate_few k w rows (get_or part 0 0) ready.going ready.none ready.inside h)) (wrote_none (gather_by w (get_or part 0 0)) w.counts.rows));
       }
 
-  pub one-four : {g : Going} → 3 < w.have → Wrote g true row w.counts.rows (take_by k w (get_or part 0 0) 1)
-      → Strode k w part (record { going = g; taken = 1; wrote = true }) row
+  pub one_four : {r : Stride Going} → 3 < w.have → Takes k w (get_or part 0 0) 1 r → Strode k w part r
   unfolding eat_all_by
-  one-four h t =
+  one_four {r} h t =
       let d : take 1 part ≡ get_or part 0 0 ∷ [] = front 0 part some in record {
-        least = omega arith;
-        most = omega arith;
-        wrote = wrote_as (take_by k w (get_or part 0 0) 1) _
-            (λ rows. rw d (ate_four k w rows (get_or part 0 0) ready.going ready.none ready.inside h)) t;
+        least = omega (arith, t.taken);
+        most = omega (arith, t.taken);
+        wrote = rw t.taken (wrote_as (take_by k w (get_or part 0 0) 1) _
+            (λ rows. rw d (ate_four k w rows (get_or part 0 0) ready.going ready.none ready.inside h)) t.wrote);
       }
 
-  pub one-three : {g : Going} {s r : Walked} → w.have ≡ 3 → g ≡ gather_by w (get_or part 0 0) → HeadStrode k g (drop 1 part) s row → length (drop 1 part) < length part
-      → r ≡ further_by s 1 → Strode k w part r row
+  pub one_three : {g : Going} {s : Stride Going} → w.have ≡ 3 → g ≡ gather_by w (get_or part 0 0) → HeadStrode k g (drop 1 part) s → length (drop 1 part) < length part
+      → Strode k w part (with_taken s 1)
   unfolding eat_all_by gather_by
-  one-three {g} {s} {r} h e t l f =
-      let t' : HeadStrode k (gather_by w (get_or part 0 0)) (drop 1 part) s row = rw e at t in
-      rw f (record {
+  one_three {g} {s} h e t l =
+      let t' : HeadStrode k (gather_by w (get_or part 0 0)) (drop 1 part) s = rw e at t in
+      record {
         least = omega arith;
         most = omega (arith, t'.most);
         wrote = wrote_as _ _
             (λ rows. rw (front s.taken part some) (ap (and_then k (take s.taken (drop 1 part))) (ate_three k w rows (get_or part 0 0) ready.going ready.none ready.inside h))) t'.wrote;
-      })
+      }
 
 -- ---- what gathering keeps
 
-pub ready-gather : {w : Going} (x : ℕ) → Ready w → Ready (gather_by w x)
+pub ready_gather : {w : Going} (x : ℕ) → Ready w → Ready (gather_by w x)
 unfolding gather_by
-ready-gather x r = record { going = r.going; none = r.none; inside = r.inside }
+ready_gather x r = record { going = r.going; none = r.none; inside = r.inside }
 
-pub have-gather : (w : Going) (x : ℕ) → w.have ≡ 3 → (gather_by w x).have ≡ 4
+pub have_gather : (w : Going) (x : ℕ) → w.have ≡ 3 → (gather_by w x).have ≡ 4
 unfolding gather_by
-have-gather w x e = omega arith
+have_gather w x e = omega arith

@@ -4,29 +4,31 @@
 use mathlib.Core.Path.{◌≡◌, refl, sym, ap, ◌∙◌}
 use mathlib.Core.Bool.{Bool, true, false, cond}
 use mathlib.Core.List.{List, [], ◌∷◌, ◌++◌}
-use Prim.Native.Nat.{ℕ, suc, ◌+◌, ◌-◌, ◌*◌, ◌≤◌, ◌<◌}
+use Prim.Native.Nat.{ℕ, suc, ◌+◌, ◌-◌, ◌*◌, ◌/◌, ◌≤◌, ◌<◌}
 use native.Mathlib.Omega.{arith}
 use borrow.Author.Tests.{ltb-true, ltb-false, lt-ltb, le-ltb, ne_eqb}
 use lib.Dec.{ltb}
 use lib.ListN.{length, take, drop, length-drop, length-replicate, take-append-drop}
-use lib.Seq.{get_or-drop, length-take-le, drop_at, drop-drop}
+use lib.Seq.{take-nil, get_or-drop, length-take-le, drop_at, drop-drop}
 use Rattle.rules.specs.Sizes.{header_numbers, row_numbers, used}
 use Rattle.rules.specs.Framing.{flag_t, length_field, header_length, message_type}
 use Rattle.rules.specs.Listings.{book}
 use Rattle.rules.specs.Standing.{fresh}
-use Rattle.rules.specs.Taking.{Out, cut, whole, walk, body_level}
-use Rattle.rules.specs.Table.{rows_of, table_of, laid}
-use Rattle.rules.specs.Verdicts.{opening_checks, refused_at, check, refuses, first, header_checks, framing_checks, judge_verdict, judge_table, items}
-use Rattle.rules.specs.Answers.{refused_reading, reading_of, Read}
+use Rattle.rules.specs.Taking.{Out, cut, whole, taken, walk, body_level}
+use Rattle.rules.specs.Table.{rows_of, table_of, laid, fitting}
+use Rattle.rules.specs.Verdicts.{opening_checks, refused_at, check, cut_check, refuses, first, header_checks, framing_checks, judge_verdict, judge_table, items}
+use Rattle.rules.specs.Answers.{refused_reading, reading_of, read_items, read_rows, Read}
 use Rattle.rules.specs.declared.Verdict.{Verdict}
 use Rattle.rules.specs.declared.Reading.{Reading}
 use Rattle.rules.proofs.Standings.{no_mark}
+use Rattle.rules.proofs.Checks.{first_append}
 use Rattle.rules.proofs.Header.{Passed, passed}
 use Rattle.rules.proofs.Rows.{Octets, rows-length}
 use Rattle.rules.proofs.Readings.{refusal_is, count_is, all_laid}
 use Rattle.taking.specs.Held.{Held, held, no_counts}
 use Rattle.reading.specs.Scan.{whole_reading, scan}
-use Rattle.reading.proofs.Endings.{ends-refused, ends-cut, ends-whole, rest-is}
+use Rattle.reading.proofs.Endings.{ends-cut, ends-whole}
+use Rattle.pieces.proofs.Accepting.{rest-is}
 use Rattle.judging.specs.Judging.{given}
 use Rattle.judging.proofs.Deciding.{verdict_is}
 use Rattle.judging.proofs.Accepted.{Ready, ready}
@@ -56,6 +58,17 @@ count-enough k m = go (ltb 4096 (length m)) refl
     go false e = let l : length m ≤ 4096 = ltb-false _ _ e in rw (counted-low (length m) l) (ap first (own-length m book k))
 
 -- ---- checks 1 to 9
+
+none-laid : (rows : List ℕ) → laid (rows_of (fitting (length rows) [])) rows ≡ rows
+unfolding laid rows_of
+none-laid rows = rw (take-nil (length rows / row_numbers))
+
+-- where they refuse, that is the reading, and nothing is laid over what is lent
+refused-reading : (k : ℕ) (m rows : List ℕ) → refuses (first (header_checks book k m)) ≡ true → Read k m rows (refused_reading (first (header_checks book k m))) rows
+unfolding framing_checks reading_of read_rows read_items
+refused-reading k m rows e =
+    let f : first (framing_checks book k m) ≡ first (header_checks book k m) = first_append (header_checks book k m) (cut_check (taken book k m) ∷ []) ∙ rw e in
+    record { answers = rw (f, e); rows_left = rw e (sym (none-laid rows)) }
 
 module _ (k : ℕ) (m rows : List ℕ) (clean : Clean 0 rows) where
   abbrev before : Draft
@@ -134,7 +147,7 @@ module _ (k : ℕ) (m rows : List ℕ) (clean : Clean 0 rows) where
     fed-reads oct = rw fed-passed (walk-read oct out scanned agrees refl)
 
   some_read : Octets m → (c : Bool) → refuses (first (header_checks book k m)) ≡ c → (rows' : List ℕ) × Read k m rows (fed_reading fed) rows'
-  some_read oct true e = (rows, ends-refused k m rows (first (header_checks book k m)) (fed_reading fed) refl e (fed-refused e))
+  some_read oct true e = (rows, rw (fed-refused e) (refused-reading k m rows e))
   some_read oct false e = let r = fed-reads e oct in (r.0, r.1)
 
   -- ---- the verdict

@@ -17,6 +17,8 @@ pub mod Promised
 pub mod Past
 pub mod StandIns
 pub mod Alone
+pub mod Twos
+pub mod Octets
 pub mod Backs
 pub mod Taken
 pub mod Headed

@@ -93,9 +93,9 @@ part_out p part t r t' e c =
       table_left = c.table_left ∙ rw e;
     }
 
-end-out : (p : Pieces) (t : List ℕ) (r : Told) (t' : List ℕ) → takes p (length t) ≡ false → Ended p t r t' → NotTaken p t r t'
+end_out : (p : Pieces) (t : List ℕ) (r : Told) (t' : List ℕ) → takes p (length t) ≡ false → Ended p t r t' → NotTaken p t r t'
 unfolding end_told end_table
-end-out p t r t' e c =
+end_out p t r t' e c =
     record {
       verdict = ap (λ (x : Told). x.verdict) c.answers ∙ rw e;
       state = ap (λ (x : Told). x.state) c.answers ∙ rw e;
@@ -108,7 +108,7 @@ unfolding end_told end_table
 zero-refused p t r t' c some other = go (takes p (length t)) refl
   where
     go : (b : Bool) → takes p (length t) ≡ b → t' ≡ replicate (length t) 0
-    go false e = absurd (other (ap (λ (v : Verdict). v.code) (end-out p t r t' e c).verdict))
+    go false e = absurd (other (ap (λ (v : Verdict). v.code) (end_out p t r t' e c).verdict))
     go true e =
         let v : r.verdict ≡ verdict_by p (length t) = ap (λ (x : Told). x.verdict) c.answers ∙ rw e in
         let n : 0 < r.verdict.code = omega (arith, some) in
@@ -152,7 +152,7 @@ module _ {k room : ℕ} {ps : List (List ℕ)} {p : Pieces} {t : List ℕ} (run 
     other-part part r t' c = let o = part_out p part other r t' not_taken c in (o, rw o.state run)
 
     pub other-end : (r : Told) (t' : List ℕ) → Ended p other r t' → NotTaken p other r t' × Runs k room ps r.state t
-    other-end r t' c = let o = end-out p other r t' not_taken c in (o, rw o.state run)
+    other-end r t' c = let o = end_out p other r t' not_taken c in (o, rw o.state run)
 
 -- two runs over the same octets, cut otherwise, end with one verdict and one table
 pub cut_anyhow : {k room : ℕ} {ps ps' : List (List ℕ)} {p p' : Pieces} {t t' : List ℕ} → Runs k room ps p t → Runs k room ps' p' t' → joined_parts ps ≡ joined_parts ps' → Octets (joined_parts ps)
@@ -178,11 +178,11 @@ over-ended : {p : Pieces} → Over p → p.ended ≡ true
 unfolding end_told ended_by
 over-ended (by_end {p = p} {t = t} {r = r} run c) = ap (λ (x : Told). x.state.ended) c.answers ∙ rw (taken run)
 over-ended (then_part {p = p} {part = part} {t = t} {t' = t'} {r = r} o c) = ap (λ (x : Pieces). x.ended) (part_out p part t r t' (over-takes p (length t) (over-ended o)) c).state ∙ over-ended o
-over-ended (then_end {p = p} {t = t} {t' = t'} {r = r} o c) = ap (λ (x : Pieces). x.ended) (end-out p t r t' (over-takes p (length t) (over-ended o)) c).state ∙ over-ended o
+over-ended (then_end {p = p} {t = t} {t' = t'} {r = r} o c) = ap (λ (x : Pieces). x.ended) (end_out p t r t' (over-takes p (length t) (over-ended o)) c).state ∙ over-ended o
 
 -- whatever table is lent
 pub over-part : (p : Pieces) (part t : List ℕ) (r : Told) (t' : List ℕ) → Over p → Parted p part t r t' → NotTaken p t r t'
 over-part p part t r t' o c = part_out p part t r t' (over-takes p (length t) (over-ended o)) c
 
 pub over-end : (p : Pieces) (t : List ℕ) (r : Told) (t' : List ℕ) → Over p → Ended p t r t' → NotTaken p t r t'
-over-end p t r t' o c = end-out p t r t' (over-takes p (length t) (over-ended o)) c
+over-end p t r t' o c = end_out p t r t' (over-takes p (length t) (over-ended o)) c

@@ -2,18 +2,18 @@
 -- Assumes nothing.
 use mathlib.Core.Path.{◌≡◌, refl, sym, ap, ◌∙◌}
 use mathlib.Core.Bool.{Bool, true, false}
+use Rattle.std.specs.Prelude.{None}
 use mathlib.Core.List.{List, [], ◌∷◌}
 use Prim.Native.Nat.{ℕ, suc, ◌+◌, ◌-◌, ◌≤◌, ◌<◌}
 use native.Mathlib.Omega.{arith}
 use lib.ListN.{length, get_or, set, take, drop}
 use lib.Seq.{length-take-le}
-use Rattle.rules.specs.Sizes.{row_numbers}
 use Rattle.pieces.specs.declared.Going.{Going}
-use Rattle.pieces.specs.declared.Walked.{Walked}
-use Rattle.pieces.specs.Coded.{fed_with, gather_by, gather_four, pass_one, pass_by, further_by, headed_by, eat_by, eat_all_by}
+use Rattle.pieces.specs.declared.Stride.{Stride}
+use Rattle.pieces.specs.Coded.{fed_with, gather_by, gather_four, pass_one, pass_by, headed_by, eat_by, eat_all_by}
 use Rattle.pieces.specs.Fits.{Sized}
-use Rattle.pieces.specs.Agreements.{Ready, Least, Four, and_then, HeadStrode, Strode}
-use Rattle.pieces.proofs.Headed.{ate_stopped, ate_pass, ate_none, ate_few, ate_three, wrote_as, wrote_none}
+use Rattle.pieces.specs.Agreements.{Ready, and_then, HeadStrode, Strode}
+use Rattle.pieces.proofs.Headed.{ate_stopped, ate_pass, ate_none, ate_few, ate_three, wrote_as, wrote_none, with_taken}
 
 -- ---- passed over
 
@@ -32,17 +32,17 @@ all_pass k w (x ∷ xs) rows s l =
     let e : eat_by k w x rows ≡ fed_with (pass_one w) rows = ate_pass k w rows x s (omega arith) in
     ap (and_then k xs) e ∙ all_pass k (pass_one w) xs rows s (omega arith) ∙ ap (λ (g : Going). fed_with g rows) (pass-more w (length xs))
 
-pub strode_pass : (k : ℕ) (w : Going) (part row : List ℕ) {g : Going} (n : ℕ) → length row ≡ row_numbers → w.stopped ≡ false → 0 < w.pass → 0 < length part
-    → Least w.pass (length part) n → g ≡ pass_by w n → Strode k w part (record { going = g; taken = n; wrote = false }) row
+pub strode_pass : (k : ℕ) (w : Going) (part : List ℕ) (n : ℕ) → w.stopped ≡ false → 0 < n → n ≤ w.pass → n ≤ length part
+    → Strode k w part (record { state = pass_by w n; taken = n; row = None })
 unfolding pass_by
-strode_pass k w part row {g} n l s pos some m e =
-    let len : length (take n part) ≡ n = length-take-le n part m.right in
+strode_pass k w part n s some left right =
+    let len : length (take n part) ≡ n = length-take-le n part right in
     let is : (rows : List ℕ) → eat_all_by k w (take n part) rows ≡ fed_with (pass_by w n) rows
-    = λ rows. all_pass k w (take n part) rows s (omega (arith, len, m.left)) ∙ ap (λ (j : ℕ). fed_with (pass_by w j) rows) len in
+    = λ rows. all_pass k w (take n part) rows s (omega (arith, len, left)) ∙ ap (λ (j : ℕ). fed_with (pass_by w j) rows) len in
     record {
-      least = m.some pos some;
-      most = m.right;
-      wrote = rw e (wrote_as (fed_with (pass_by w n)) _ is (wrote_none (pass_by w n) row w.counts.rows l));
+      least = some;
+      most = right;
+      wrote = wrote_as (fed_with (pass_by w n)) _ is (wrote_none (pass_by w n) w.counts.rows);
     }
 
 -- ---- nothing is walked
@@ -97,29 +97,32 @@ front-four n (a ∷ b ∷ []) l = absurd (omega arith)
 front-four n (a ∷ b ∷ c ∷ []) l = absurd (omega arith)
 front-four n (a ∷ b ∷ c ∷ d ∷ xs) l = let e : 4 + n ≡ suc (suc (suc (suc n))) = omega arith in rw e
 
-pub strode_four : (k : ℕ) (w : Going) (part : List ℕ) {row : List ℕ} {g : Going} {s r : Walked} → Ready w → w.have ≡ 0 → length w.some ≡ 4 → 4 ≤ length part
-    → g ≡ gather_four w (Four part) → HeadStrode k g (drop 4 part) s row → length (drop 4 part) + 4 ≡ length part → r ≡ further_by s 4 → Strode k w part r row
+-- the first four octets
+abbrev pub Four : List ℕ → List ℕ
+Four xs = get_or xs 0 0 ∷ get_or xs 1 0 ∷ get_or xs 2 0 ∷ get_or xs 3 0 ∷ []
+
+pub strode_four : (k : ℕ) (w : Going) (part : List ℕ) {s : Stride Going} → Ready w → w.have ≡ 0 → length w.some ≡ 4 → 4 ≤ length part
+    → HeadStrode k (gather_four w (Four part)) (drop 4 part) s → length (drop 4 part) + 4 ≡ length part → Strode k w part (with_taken s 4)
 unfolding gather_four
-strode_four k w part {row} {g} {s} {r} ready none bytes l e t n f =
-    let t' : HeadStrode k (gather_four w (Four part)) (drop 4 part) s row = rw e at t in
-    rw f (record {
+strode_four k w part {s} ready none bytes l t n =
+    record {
       least = omega arith;
-      most = omega (arith, t'.most);
+      most = omega (arith, t.most);
       wrote = wrote_as _ _
           (λ rows. rw (front-four s.taken part l)
-          (ate_header k w ready none bytes (get_or part 0 0) (get_or part 1 0) (get_or part 2 0) (get_or part 3 0) (take s.taken (drop 4 part)) rows)) t'.wrote;
-    })
+          (ate_header k w ready none bytes (get_or part 0 0) (get_or part 1 0) (get_or part 2 0) (get_or part 3 0) (take s.taken (drop 4 part)) rows)) t.wrote;
+    }
 
 -- ---- what gathering four keeps
 
-pub ready-four : {w : Going} (xs : List ℕ) → Ready w → Ready (gather_four w xs)
+pub ready_four : {w : Going} (xs : List ℕ) → Ready w → Ready (gather_four w xs)
 unfolding gather_four
-ready-four xs r = record { going = r.going; none = r.none; inside = r.inside }
+ready_four xs r = record { going = r.going; none = r.none; inside = r.inside }
 
-pub four-have : (w : Going) (xs : List ℕ) → (gather_four w xs).have ≡ 4
+pub four_have : (w : Going) (xs : List ℕ) → (gather_four w xs).have ≡ 4
 unfolding gather_four
-four-have w xs = refl
+four_have w xs = refl
 
-pub four-sized : {k : ℕ} {w : Going} (part : List ℕ) → Sized k w → Sized k (gather_four w (Four part))
+pub four_sized : {k : ℕ} {w : Going} (part : List ℕ) → Sized k w → Sized k (gather_four w (Four part))
 unfolding gather_four
-four-sized part z = record { slots = z.slots; bytes = refl; deep = z.deep; have = omega arith; each = z.each; ends = z.ends; few = z.few; owns = z.owns; spare = z.spare; kind = z.kind }
+four_sized part z = record { slots = z.slots; bytes = refl; deep = z.deep; have = omega arith; each = z.each; ends = z.ends; few = z.few; owns = z.owns; spare = z.spare; kind = z.kind }

@@ -1,24 +1,21 @@
 -- The tests of a state, way by way. Assumes nothing.
-use mathlib.Core.Path.{◌≡◌, refl, sym, ap, ◌∙◌}
-use mathlib.Core.Bool.{Bool, true, false, not, ◌&&◌}
+use mathlib.Core.Path.{◌≡◌, sym, ap, ◌∙◌}
+use mathlib.Core.Bool.{Bool, true, false, ◌&&◌}
 use mathlib.Core.List.{List}
 use Prim.Native.Nat.{ℕ, suc, ◌+◌, ◌≤◌, ◌<◌}
 use native.Mathlib.Omega.{arith}
 use native.Mathlib.Numerals.{add-one}
-use borrow.Author.Tests.{eq-eqb, ne_eqb, le-leb, lt-leb, leb-true}
-use lib.Dec.{eqb, ltb, leb}
+use borrow.Author.Tests.{le-leb, lt-leb, leb-true}
+use lib.Dec.{ltb, leb}
 use lib.ListN.{length, get_or, drop}
 use lib.Seq.{drop-cons, drop-length}
 use Rattle.rules.specs.Sizes.{largest_message}
-use Rattle.rules.specs.Framing.{element_header, value_length}
 use Rattle.rules.specs.Listings.{book}
 use Rattle.rules.proofs.Lines.{and_right}
 use Rattle.pieces.specs.declared.Open.{Open}
-use Rattle.pieces.specs.declared.Going.{Going}
 use Rattle.pieces.specs.Depth.{deepest}
-use Rattle.pieces.specs.Coded.{no_open, top_of}
-use Rattle.pieces.specs.Answers.{slot_fits, slots_fit, waits}
-use Rattle.pieces.proofs.Accepting.{cond_yes, cond_no}
+use Rattle.pieces.specs.Coded.{no_open}
+use Rattle.pieces.specs.Answers.{slot_fits, slots_fit}
 
 pub and_no : (a b : Bool) → a ≡ false → a && b ≡ false
 and_no a b e = rw e
@@ -26,9 +23,9 @@ and_no a b e = rw e
 pub and_yes : (a b c : Bool) → a ≡ true → b ≡ c → a && b ≡ c
 and_yes a b c e f = rw e f
 
-pub slot-left : (f : Open) → slot_fits f ≡ true → f.left ≤ largest_message
+pub slot_left : (f : Open) → slot_fits f ≡ true → f.left ≤ largest_message
 unfolding slot_fits
-slot-left f e =
+slot_left f e =
     leb-true _ _ (and_right (leb f.home largest_message) _ (and_right (leb f.parent largest_message) _ (and_right (ltb f.level (length book.levels)) _ e)))
 
 -- what holds at each turn of the loop over the levels: those from n on are to fit, from a place on
@@ -64,29 +61,3 @@ module _ {place : ℕ} {fs : List Open} {at n : ℕ} (w : Fitting place fs at n)
       most = omega arith;
       same = here ∙ and_yes _ _ _ e (and_yes _ _ _ (le-leb (at + f.left) largest_message h) (ap (λ (j : ℕ). slots_fit (at + f.left) (drop j fs)) (sym (add-one n))));
     }
-
-module _ (w : Going) where
-  pub wait-stopped : w.stopped ≡ true → waits w ≡ true
-  unfolding waits
-  wait-stopped e = cond_yes _ _ _ e
-
-  module _ (go : w.stopped ≡ false) where
-    pub wait-none : w.depth ≡ 0 → waits w ≡ true
-    unfolding waits
-    wait-none e = cond_no _ _ _ go ∙ cond_yes _ _ _ (eq-eqb _ _ e)
-
-    module _ (some : w.depth ≡ 0 → ⊥) where
-      pub wait-few : (w.have ≡ 4 → ⊥) → waits w ≡ true
-      unfolding waits
-      wait-few e = cond_no _ _ _ go ∙ cond_no _ _ _ (ne_eqb _ _ some) ∙ cond_yes _ _ _ (ap not (ne_eqb _ _ e))
-
-      module _ (four : w.have ≡ 4) where
-        to-value : waits w ≡ not (eqb (value_length w.some) 0) && leb (element_header + value_length w.some) (top_of w).left
-        unfolding waits
-        to-value = cond_no _ _ _ go ∙ cond_no _ _ _ (ne_eqb _ _ some) ∙ cond_no _ _ _ (ap not (eq-eqb _ _ four))
-
-        pub wait-empty : value_length w.some ≡ 0 → waits w ≡ false
-        wait-empty e = to-value ∙ and_no _ _ (ap not (eq-eqb _ _ e))
-
-        pub wait-full : (value_length w.some ≡ 0 → ⊥) → waits w ≡ leb (element_header + value_length w.some) (top_of w).left
-        wait-full e = to-value ∙ and_yes _ _ _ (ap not (ne_eqb _ _ e)) refl

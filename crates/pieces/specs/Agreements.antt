@@ -1,46 +1,44 @@
 -- The parts of contracts over the steps of the code. Assumes nothing.
-use Rattle.std.specs.Prelude.{◌≡◌, ℕ, ◌+◌, ◌≤◌, ◌<◌, Bool, true, false, cond, List, [], ◌∷◌, ltb, length, get_or, take}
-use Rattle.rules.specs.Sizes.{largest_message, header_numbers, row_numbers}
+use Rattle.std.specs.Prelude.{◌≡◌, ℕ, ◌+◌, ◌≤◌, ◌<◌, Bool, true, false, Option, MatchOption, ⊤, List, length, take}
+use Rattle.rules.specs.Sizes.{largest_message}
 use Rattle.rules.specs.Framing.{element_header, value_length, message_type, length_field, header_length}
 use Rattle.rules.specs.Listings.{book, is_message}
-use Rattle.listings.specs.Data.{numbers_of}
 use Rattle.taking.specs.declared.Counts.{Counts}
-use Rattle.pieces.specs.declared.Open.{Open}
+use Rattle.taking.specs.declared.Inside.{Inside}
 use Rattle.pieces.specs.declared.Going.{Going}
 use Rattle.pieces.specs.declared.Pieces.{Pieces}
-use Rattle.pieces.specs.declared.Walked.{Walked}
 use Rattle.pieces.specs.declared.Stride.{Stride}
 use Rattle.pieces.specs.Depth.{deepest}
-use Rattle.pieces.specs.Coded.{top_of, row_if, Fed, FedPieces, headed_by, eat_all_by, feed_all_by}
+use Rattle.pieces.specs.Coded.{top_of, row_if, Fed, FedPieces, take_by, headed_by, eat_all_by, feed_all_by}
 use Rattle.pieces.specs.Fits.{Sized, Fits}
 use Rattle.pieces.specs.Answers.{takes}
 
 -- ---- levels
 
--- levels are closed by the listings as numbers
-pub record Closing (k : ℕ) (xs : List ℕ) (w : Going) : Type 0 where
-  pub numbers : xs ≡ numbers_of book
+-- a level is open
+pub record Within (k : ℕ) (w : Going) : Type 0 where
   pub sized : Sized k w
-
--- f is the innermost level
-pub record ClosingOf (k : ℕ) (xs : List ℕ) (w : Going) (f : Open) : Type 0 where
-  pub closing : Closing k xs w
   pub inside : 0 < w.depth
-  pub top : f ≡ top_of w
+
+-- what is entered is the inside of a group
+abbrev pub IsGroup : Option Inside → Type 0
+IsGroup enters = MatchOption enters ⊤ (λ i. 0 < i.level)
 
 -- an element of so many value octets stands at the place, in the innermost level, and `came` of them have come
-pub record Placing (w : Going) (len came : ℕ) : Type 0 where
+pub record Placing (w : Going) (enters : Option Inside) (len came : ℕ) : Type 0 where
   pub deep : w.depth ≤ deepest
   pub inside : 0 < w.depth
   pub came_of : came ≤ len
   pub ends : w.place + 4 + len ≤ largest_message
+  pub group : IsGroup enters
 
 -- ---- one element
 
 -- one APN more, or none
-pub record Watching (w : Going) (n : ℕ) : Type 0 where
+pub record Watching (w : Going) (enters : Option Inside) (n : ℕ) : Type 0 where
   pub apns : w.apns ≤ largest_message
   pub one : n ≤ 1
+  pub group : IsGroup enters
 
 -- one element is counted with the others
 pub record Adds (c e : Counts) : Type 0 where
@@ -50,20 +48,22 @@ pub record Adds (c e : Counts) : Type 0 where
   pub one_kept : e.kept ≤ 1
 
 -- an element is taken at the innermost level, whose header is whole and lies in what is left; `came` octets of its value have come
-pub record Taking (k : ℕ) (xs : List ℕ) (w : Going) (came : ℕ) (row : List ℕ) : Type 0 where
-  pub numbers : xs ≡ numbers_of book
+pub record Taking (k : ℕ) (w : Going) (came : ℕ) : Type 0 where
   pub sized : Sized k w
   pub inside : 0 < w.depth
   pub room : element_header + value_length w.some ≤ (top_of w).left
   pub once : came ≤ 1
   pub came_of : came ≤ value_length w.some
-  pub long : length row ≡ row_numbers
 
 -- whatever rows are lent, f leaves r of the walk; and the rows themselves, or with one more at n, but for what goes back with it
-pub record Wrote (r : Going) (wrote : Bool) (row : List ℕ) (n : ℕ) (f : List ℕ → Fed) : Type 0 where
+pub record Wrote (r : Going) (row : Option (List ℕ)) (n : ℕ) (f : List ℕ → Fed) : Type 0 where
   pub going : (rows : List ℕ) → (f rows).going ≡ r
-  pub rows_left : (rows : List ℕ) → (f rows).rows ≡ row_if wrote rows n row r.counts.rows
-  pub long : length row ≡ row_numbers
+  pub rows_left : (rows : List ℕ) → (f rows).rows ≡ row_if rows n row r.counts.rows
+
+-- it is taken, with what came of its value
+pub record Takes (k : ℕ) (w : Going) (first came : ℕ) (r : Stride Going) : Type 0 where
+  pub taken : r.taken ≡ came
+  pub wrote : Wrote r.state r.row w.counts.rows (take_by k w first came)
 
 -- nothing is passed over, and a level is open
 pub record Ready (w : Going) : Type 0 where
@@ -72,54 +72,38 @@ pub record Ready (w : Going) : Type 0 where
   pub inside : 0 < w.depth
 
 -- the header of an element is whole
-pub record Heading (k : ℕ) (xs : List ℕ) (w : Going) (row : List ℕ) : Type 0 where
-  pub numbers : xs ≡ numbers_of book
+pub record Heading (k : ℕ) (w : Going) : Type 0 where
   pub sized : Sized k w
   pub ready : Ready w
   pub four : w.have ≡ 4
-  pub long : length row ≡ row_numbers
 
 -- octets follow what f left
 abbrev pub and_then : ℕ → List ℕ → Fed → Fed
 and_then k xs f = eat_all_by k f.going xs f.rows
 
-pub record HeadStrode (k : ℕ) (w : Going) (rest : List ℕ) (r : Walked) (row : List ℕ) : Type 0 where
+pub record HeadStrode (k : ℕ) (w : Going) (rest : List ℕ) (r : Stride Going) : Type 0 where
   pub most : r.taken ≤ length rest
   pub few : r.taken ≤ 1
-  pub wrote : Wrote r.going r.wrote row w.counts.rows (λ rows. and_then k (take r.taken rest) (headed_by k w rows))
+  pub wrote : Wrote r.state r.row w.counts.rows (λ rows. and_then k (take r.taken rest) (headed_by k w rows))
 
 -- the next octets of the elements
-pub record Stepping (k : ℕ) (xs : List ℕ) (w : Going) (part row : List ℕ) : Type 0 where
-  pub numbers : xs ≡ numbers_of book
+pub record Stepping (k : ℕ) (w : Going) (part : List ℕ) : Type 0 where
   pub fits : Fits k w
   pub ready : Ready w
   pub some : 0 < length part
-  pub long : length row ≡ row_numbers
 
 -- some of them are taken, at least one
-pub record Strode (k : ℕ) (w : Going) (part : List ℕ) (r : Walked) (row : List ℕ) : Type 0 where
+pub record Strode (k : ℕ) (w : Going) (part : List ℕ) (r : Stride Going) : Type 0 where
   pub least : 0 < r.taken
   pub most : r.taken ≤ length part
-  pub wrote : Wrote r.going r.wrote row w.counts.rows (eat_all_by k w (take r.taken part))
-
--- the first four octets
-abbrev pub Four : List ℕ → List ℕ
-Four xs = get_or xs 0 0 ∷ get_or xs 1 0 ∷ get_or xs 2 0 ∷ get_or xs 3 0 ∷ []
-
--- the lesser of two
-pub record Least (a b r : ℕ) : Type 0 where
-  pub left : r ≤ a
-  pub right : r ≤ b
-  pub some : 0 < a → 0 < b → 0 < r
+  pub wrote : Wrote r.state r.row w.counts.rows (eat_all_by k w (take r.taken part))
 
 -- the next octets of the elements, of which some may be passed over
-pub record Passing (k : ℕ) (xs : List ℕ) (w : Going) (part row : List ℕ) : Type 0 where
-  pub numbers : xs ≡ numbers_of book
+pub record Passing (k : ℕ) (w : Going) (part : List ℕ) : Type 0 where
   pub fits : Fits k w
   pub going : w.stopped ≡ false
   pub inside : w.pass ≡ 0 → 0 < w.depth
   pub some : 0 < length part
-  pub long : length row ≡ row_numbers
 
 -- ---- the message
 
@@ -133,19 +117,16 @@ pub record FitsAll (p : Pieces) : Type 0 where
   pub fits : Fits p.kind p.going
   pub count : p.count ≤ 4097
 
-pub record Striding (xs : List ℕ) (p : Pieces) (part row : List ℕ) : Type 0 where
-  pub numbers : xs ≡ numbers_of book
+pub record Striding (p : Pieces) (part : List ℕ) : Type 0 where
   pub all : FitsAll p
   pub some : 0 < length part
-  pub long : length row ≡ row_numbers
 
--- whatever rows are lent, the first `taken` octets leave this state, and one row more where `wrote` says so, but for what goes back with it
-pub record StrodeAll (p : Pieces) (part : List ℕ) (r : Stride) (row : List ℕ) : Type 0 where
+-- whatever rows are lent, the first `taken` octets leave this state, and one row more where an element was taken, but for what goes back with it
+pub record StrodeAll (p : Pieces) (part : List ℕ) (r : Stride Pieces) : Type 0 where
   pub least : 0 < r.taken
   pub most : r.taken ≤ length part
   pub state : (rows : List ℕ) → (feed_all_by p (take r.taken part) rows).state ≡ r.state
-  pub rows_left : (rows : List ℕ) → (feed_all_by p (take r.taken part) rows).rows ≡ row_if r.wrote rows p.going.counts.rows row r.state.going.counts.rows
-  pub long : length row ≡ row_numbers
+  pub rows_left : (rows : List ℕ) → (feed_all_by p (take r.taken part) rows).rows ≡ row_if rows p.going.counts.rows r.row r.state.going.counts.rows
 
 -- r of n octets are only counted: in the header after its fourth and before its last, or where nothing is walked; if none is, an octet of the header comes, or the walk goes on
 pub record Idles (p : Pieces) (n r : ℕ) : Type 0 where
@@ -157,19 +138,9 @@ pub record Idles (p : Pieces) (n r : ℕ) : Type 0 where
 
 -- ---- the table
 
--- a row's number and its six numbers
-pub record Rowed (n : ℕ) (row : List ℕ) : Type 0 where
-  pub few : n ≤ largest_message
-  pub long : length row ≡ row_numbers
-
 pub record GaveAll (r : Pieces) (rows : List ℕ) (b : FedPieces) : Type 0 where
   pub state : r ≡ b.state
   pub rows_left : rows ≡ b.rows
-
--- where a table's rows begin
-pub record From (room r : ℕ) : Type 0 where
-  pub is : r ≡ cond (ltb room header_numbers) room header_numbers
-  pub most : r ≤ room
 
 pub record Readied (p : Pieces) (room : ℕ) (r : Bool) : Type 0 where
   pub is : r ≡ takes p room

@@ -1,5 +1,5 @@
 -- The steps as the code takes them: the open levels are in an array and a count, the header's octets too. Assumes nothing.
-use Rattle.std.specs.Prelude.{ℕ, zero, suc, ◌+◌, ◌-◌, ◌%◌, Bool, true, false, cond, List, [], ◌∷◌, eqb, ltb, get_or, set, replicate}
+use Rattle.std.specs.Prelude.{ℕ, zero, suc, ◌+◌, ◌-◌, ◌%◌, Bool, true, false, cond, Option, Some, None, List, [], ◌∷◌, eqb, ltb, get_or, set, replicate}
 use Rattle.rules.specs.Sizes.{largest_message}
 use Rattle.rules.specs.Framing.{octet, element_header, value_length, length_field, header_length}
 use Rattle.rules.specs.Listings.{book}
@@ -14,7 +14,6 @@ use Rattle.taking.specs.declared.Counts.{Counts}
 use Rattle.pieces.specs.declared.Open.{Open}
 use Rattle.pieces.specs.declared.Going.{Going}
 use Rattle.pieces.specs.declared.Pieces.{Pieces}
-use Rattle.pieces.specs.declared.Walked.{Walked}
 use Rattle.pieces.specs.Depth.{deepest}
 use Rattle.taking.specs.Frames.{apns_of}
 use Rattle.pieces.specs.Drafts.{limited_level, back_to, Draft, draft, back_by, is_crowded}
@@ -199,12 +198,9 @@ entry_by h = record {
 }
 
 -- where an element was taken its row is put at n, and what goes back with it is taken back: m rows there are then
-abbrev pub row_if : Bool → List ℕ → ℕ → List ℕ → ℕ → List ℕ
-row_if wrote rows n row m = cond wrote (back_to m (n + 1) (row_laid rows n row)) rows
-
--- so many more octets were taken before
-abbrev pub further_by : Walked → ℕ → Walked
-further_by s n = record { going = s.going; taken = n + s.taken; wrote = s.wrote }
+abbrev pub row_if : List ℕ → ℕ → Option (List ℕ) → ℕ → List ℕ
+row_if rows n None m = rows
+row_if rows n (Some row) m = back_to m (n + 1) (row_laid rows n row)
 
 -- what is held of the elements, and the lent rows
 pub record Fed : Type 0 where

@@ -1,20 +1,18 @@
 // Octets as the ring hands them over: a form of the judge that is fed parts of a message and then told the end.
 #![tactic(auto)]
 
-ghost use Rattle.std.specs.Prelude.{◌≡◌, ◌-◌, ◌≤◌, length};
-ghost use Rattle.taking.specs.Held.{no_counts};
-ghost use Rattle.pieces.specs.Feeding.{zeros};
-ghost use Rattle.pieces.specs.Drafts.{blanks, stand_void, back_to};
-ghost use Rattle.pieces.specs.Coded.{blank_open, idle_by, feed_all_by, row_if};
-ghost use Rattle.pieces.specs.Answers.{start_of, told_out, ended_by, verdict_by, Started, Parted, Ended};
-ghost use Rattle.pieces.specs.Agreements.{FitsAll, From, GaveAll, Rowed};
+ghost use Rattle.std.specs.Prelude.{◌≡◌};
+ghost use Rattle.pieces.specs.Answers.{start_of, told_out, ended_by, reading_by, verdict_by, Started, Parted, Ended};
+ghost use Rattle.pieces.specs.Agreements.{FitsAll};
 
-use rules::Verdict;
+use answers::Refusal;
+use rules::{Reading, Verdict};
 use taking::Counts;
 
 mod level;
 mod message;
 pub mod pace;
+pub mod rows;
 pub mod sound;
 mod step;
 
@@ -30,7 +28,8 @@ pub struct Open {
 
 // What is held of the elements: cut at `place`; or `depth` levels are open, the next element begins at `place`, `have` octets of its
 // header are in `some`, and `pass` octets are passed over before it. The innermost level may be `limited`: it has held `apns` so far, and if they
-// are too many the counts go `back` to what they are without its inside.
+// are too many the counts go `back` to what they are without its inside. These flags stay beside their values, since a caller in C hands in any
+// combination of them and is told of each (`Answers.walk_fits`, and `Kept.walk_in` in `keeping`).
 #[derive(Clone, Copy)]
 pub struct Going {
     pub stopped: bool,
@@ -57,72 +56,54 @@ pub struct Pieces {
     pub going: Going,
 }
 
-// What some octets leave of the elements: how many were taken, and whether an element was, whose row is then to be written.
+// What some octets leave, of the elements or of the message: the state, how many octets were taken, and the row of an element if one was taken.
 #[derive(Clone, Copy)]
-pub struct Walked {
-    pub going: Going,
+pub struct Stride<S> {
+    pub state: S,
     pub taken: usize,
-    pub wrote: bool,
+    pub row: Option<[u16; 6]>,
 }
 
-// The same of a message.
-#[derive(Clone, Copy)]
-pub struct Stride {
-    pub state: Pieces,
-    pub taken: usize,
-    pub wrote: bool,
-}
-
-// What a part or the end answers: the state to go on with, and the verdict.
+// What a part or the end answers: the state to go on with, on a refusal too, and the verdict (`Answers.part_told`, `end_told`).
 #[derive(Clone, Copy)]
 pub struct Told {
     pub state: Pieces,
     pub verdict: Verdict,
 }
 
-pub(crate) fn no_level() -> Open
-    ensures { result ≡ blank_open }
-{
-    Open {
-        level: 0,
-        marks: [0; 32],
-        parent: 0,
-        home: 0,
-        left: 0,
-    }
-}
+// A slot that no level is open in.
+pub(crate) const CLOSED: Open = Open {
+    level: 0,
+    marks: [0; 32],
+    parent: 0,
+    home: 0,
+    left: 0,
+};
 
-pub(crate) fn idle() -> Going
-    ensures { result ≡ idle_by no_counts }
-{
-    let none = no_level();
-    Going {
-        stopped: false,
-        depth: 0,
-        levels: [none, none, none],
-        place: 0,
-        have: 0,
-        some: [0; 4],
-        pass: 0,
-        counts: taking::no_counts(),
-        limited: false,
-        apns: 0,
-        back: taking::no_counts(),
-    }
-}
+const UNCOUNTED: Counts = Counts {
+    rows: 0,
+    kept: 0,
+    short: 0,
+    gap: 0,
+};
 
-// All numbers of a table are zero.
-pub(crate) fn clear(table: &mut [u16])
-    ensures { table.new ≡ zeros (length table.old) }
-{
-    let mut n = 0;
-    while n < table.len() {
-        table[n] = 0;
-        n += 1;
-    }
-}
+// Nothing is walked.
+pub(crate) const IDLE: Going = Going {
+    stopped: false,
+    depth: 0,
+    levels: [CLOSED; 3],
+    place: 0,
+    have: 0,
+    some: [0; 4],
+    pass: 0,
+    counts: UNCOUNTED,
+    limited: false,
+    apns: 0,
+    back: UNCOUNTED,
+};
 
 // A message that begins, on this kind, with a table of so many numbers.
+#[tactic(auto, unfolding(crate::specs::Coded::idle_by))]
 pub fn anew(kind: u32, room: usize) -> Pieces
     ensures { result ≡ start_of kind room }
 {
@@ -132,7 +113,7 @@ pub fn anew(kind: u32, room: usize) -> Pieces
         ended: false,
         count: 0,
         head: [0; 4],
-        going: idle(),
+        going: IDLE,
     }
 }
 
@@ -140,85 +121,8 @@ pub fn anew(kind: u32, room: usize) -> Pieces
 pub fn start(kind: u32, table: &mut [u16]) -> Pieces
     ensures { Started kind table.old result table.new }
 {
-    clear(table);
+    table.fill(0);
     anew(kind, table.len())
-}
-
-// Where a table's rows begin, or its end if it has no whole header.
-pub(crate) fn rows_from(room: usize) -> usize
-    ensures { From room result }
-{
-    if room < 6 {
-        return room;
-    }
-    6
-}
-
-// Rows m to e, without the last, are zero again.
-pub(crate) fn blank(rows: &mut [u16], m: usize, e: usize)
-    requires { e ≤ 4097 }
-    ensures { rows.new ≡ blanks rows.old m (e - m) }
-{
-    let mut j = e;
-    while m < j {
-        j -= 1;
-        taking::element::put_row(rows, j, 0, 0, 0, 0, 0, 0);
-    }
-}
-
-// Row number m, counted from 1, is that of a void group.
-pub(crate) fn stand_void(rows: &mut [u16], m: usize)
-    requires { m ≤ 4097 }
-    ensures { rows.new ≡ stand_void rows.old m }
-{
-    if m == 0 {
-        return;
-    }
-    let at = 6 * m - 1;
-    if at < rows.len() {
-        rows[at] = 4;
-    }
-}
-
-// Where e rows were made and only m there are, the others go back, and the last that stays is void.
-pub(crate) fn take_back(rows: &mut [u16], m: usize, e: usize)
-    requires { e ≤ 4097 }
-    ensures { rows.new ≡ back_to m e rows.old }
-{
-    if m < e {
-        blank(rows, m, e);
-        stand_void(rows, m);
-    }
-}
-
-// A row's six numbers, if there is a row; then m rows there are.
-pub(crate) fn write_row(rows: &mut [u16], wrote: bool, n: usize, row: &[u16], m: usize)
-    requires { Rowed n row.now }
-    ensures { rows.new ≡ row_if wrote rows.old n row.now m }
-{
-    if wrote {
-        taking::element::put_row(rows, n, row[0], row[1], row[2], row[3], row[4], row[5]);
-        take_back(rows, m, n + 1);
-    }
-}
-
-// The octets of a part.
-pub(crate) fn feed_all(p: Pieces, part: &[u8], rows: &mut [u16]) -> Pieces
-    requires { FitsAll p }
-    ensures { GaveAll result rows.new (feed_all_by p part.now rows.old) }
-{
-    let numbers = listings::numbers();
-    let mut row = [0u16; 6];
-    let mut q = p;
-    let mut i = 0;
-    while i < part.len() {
-        let n = pace::rows(q);
-        let s = pace::next(&numbers, q, &part[i..], &mut row);
-        write_row(rows, s.wrote, n, &row, pace::rows(s.state));
-        q = s.state;
-        i += s.taken;
-    }
-    q
 }
 
 // 17: nothing is taken.
@@ -227,7 +131,7 @@ pub(crate) fn out(p: Pieces) -> Told
 {
     Told {
         state: p,
-        verdict: answers::refuse(17, 0),
+        verdict: Refusal::State.verdict(),
     }
 }
 
@@ -238,73 +142,65 @@ pub fn part(p: Pieces, octets: &[u8], table: &mut [u16]) -> Told
     if !sound::ready(p, table.len()) {
         return out(p);
     }
-    let from = rows_from(table.len());
-    let state = feed_all(p, octets, &mut table[from..]);
+    let from = table.len().min(6);
     Told {
-        state,
+        state: rows::feed(p, octets, &mut table[from..]),
         verdict: answers::accept(),
     }
 }
 
+#[tactic(auto, unfolding(crate::specs::Answers::ended_by))]
 pub fn ended(p: Pieces) -> Pieces
     ensures { result ≡ ended_by p }
 {
-    let head = p.head;
-    let going = p.going;
-    Pieces {
-        kind: p.kind,
-        room: p.room,
-        ended: true,
-        count: p.count,
-        head,
-        going,
+    Pieces { ended: true, ..p }
+}
+
+// Checks 1 to 9 on what was fed.
+#[tactic(auto, using(answers::proofs::Refusing::named_refuses), unfolding(crate::specs::Answers::reading_by))]
+pub(crate) fn reading_on(p: Pieces) -> Reading
+    requires { FitsAll p }
+    ensures { result ≡ reading_by p }
+{
+    if let Err(refusal) = heading::opening(p.kind, &p.head, p.count) {
+        return reading::refused(refusal.verdict());
     }
+    if p.going.stopped {
+        return reading::refused(reading::cut_at(p.going.place));
+    }
+    reading::whole(p.going.counts)
 }
 
 // The verdict on what was fed: checks 1 to 12, for a table of `room` numbers.
+#[tactic(auto, using(crate::proofs::Ends::reading_rows))]
 pub fn verdict_on(p: Pieces, room: usize) -> Verdict
     requires { FitsAll p }
     ensures { result ≡ verdict_by p room }
 {
-    let head = p.head;
-    let v = heading::opening(p.kind, &head, p.count);
-    if v.code != 0 {
-        return judging::verdict_on(reading::refused(v), room);
-    }
-    let g = p.going;
-    if g.stopped {
-        return judging::verdict_on(reading::refused(reading::cut_at(g.place)), room);
-    }
-    judging::verdict_on(reading::whole(g.counts), room)
+    judging::verdict_on(reading_on(p), room)
 }
 
 // The end of the message.
+#[tactic(auto, using(crate::proofs::Ends::end_room, crate::proofs::Ends::kind_fits, crate::proofs::Feeds::row_low))]
 pub fn end(p: Pieces, table: &mut [u16]) -> Told
     ensures { Ended p table.old result table.new }
 {
     if !sound::ready(p, table.len()) {
         return out(p);
     }
+    let state = ended(p);
     let verdict = verdict_on(p, table.len());
+    // five numbers are what C is told
     if verdict.code != 0 {
-        clear(table);
-        return Told {
-            state: ended(p),
-            verdict,
-        };
+        table.fill(0);
+        return Told { state, verdict };
     }
-    let g = p.going;
-    let counts = g.counts;
-    let head = p.head;
     judging::write_header(
-        counts.rows,
-        counts.kept,
-        head[1] as u16,
-        p.kind as u16,
+        p.going.counts.rows,
+        p.going.counts.kept,
+        u16::from(p.head[1]),
+        p.kind as u16, // one of the kinds, since the verdict accepts it
         table,
     );
-    Told {
-        state: ended(p),
-        verdict,
-    }
+    Told { state, verdict }
 }

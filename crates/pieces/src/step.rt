@@ -1,33 +1,37 @@
-// One element: its header is gathered, and once it is whole and the first value octet is there the element is taken. Its row is left in `row`, six
-// numbers, for whoever lends the table.
-ghost use Rattle.std.specs.Prelude.{◌≡◌, ◌≤◌, true, []};
-ghost use Rattle.taking.specs.Held.{Few};
-ghost use Rattle.pieces.specs.Coded.{with_watch, watched_by, alone_by, joined_by, take_by, gather_by, further_by};
-ghost use Rattle.pieces.specs.Agreements.{Watching, Taking, Heading, Adds, Wrote, Strode, HeadStrode, Stepping};
+// One element: its header is gathered, and once it is whole and the first value octet is there the element is taken. Its row is handed to whoever has the table.
+ghost use Rattle.std.specs.Prelude.{◌≡◌, ◌≤◌};
+ghost use Rattle.taking.specs.Lent.{level_of, limited_of};
+ghost use Rattle.pieces.specs.Coded.{watched_by, joined_by, gather_by};
+ghost use Rattle.pieces.specs.Agreements.{Watching, Adds, Taking, Takes, Heading, Strode, HeadStrode, Stepping};
 
-use crate::{Going, Open, Walked, level};
-use taking::{Counts, wide};
+use crate::{Going, Open, Stride, level};
+use taking::element::take_one;
+use taking::{Counts, Inside, Tally};
 
-// No octet: those of a value are still to come.
-pub(crate) fn nothing<'a>(some: &'a [u8]) -> &'a [u8]
-    ensures { result.now ≡ [] }
+// What is watched after an element: one that is entered, by its limits; another may be an APN.
+#[tactic(auto, unfolding(crate::specs::Coded::watched_by, crate::specs::Coded::with_watch))]
+pub(crate) fn watch(w: Going, enters: Option<Inside>, n: usize, counts: Counts) -> Going
+    requires { Watching w enters n }
+    ensures { result ≡ watched_by w (level_of enters) (limited_of enters) n counts }
 {
-    &some[0..0]
-}
-
-// Counts that an element is counted from by itself: its row is then the first.
-pub(crate) fn alone(c: Counts) -> Counts
-    ensures { result ≡ alone_by c }
-{
-    Counts {
-        rows: 0,
-        kept: 0,
-        short: c.short,
-        gap: c.gap,
+    match enters {
+        None => Going {
+            apns: w.apns + n,
+            ..w
+        },
+        Some(inside) => Going {
+            limited: inside.limited,
+            apns: 0,
+            back: Counts {
+                kept: w.counts.kept,
+                ..counts
+            },
+            ..w
+        },
     }
 }
 
-// The counts with those of one element.
+// The counts with those of one element that was counted by itself.
 pub(crate) fn joined(c: Counts, e: Counts) -> Counts
     requires { Adds c e }
     ensures { result ≡ joined_by c e }
@@ -35,191 +39,113 @@ pub(crate) fn joined(c: Counts, e: Counts) -> Counts
     Counts {
         rows: c.rows + e.rows,
         kept: c.kept + e.kept,
-        short: e.short,
-        gap: e.gap,
+        ..e
     }
 }
 
-pub(crate) fn with_watch(w: Going, limited: bool, apns: usize, back: Counts) -> Going
-    ensures { result ≡ with_watch w limited apns back }
+// One element is taken at the innermost level, `came` octets of its value in this stride: 1 if the first of them, `first`, has come, or 0. It is counted by
+// itself, so that its row is the first of six numbers, and then with the others.
+pub(crate) fn take(kind: u32, w: Going, first: u8, came: usize) -> Stride<Going>
+    requires { Taking kind w came }
+    ensures { Takes kind w first came result }
 {
-    let levels = w.levels;
-    let some = w.some;
-    let counts = w.counts;
-    Going {
-        stopped: w.stopped,
-        depth: w.depth,
-        levels,
-        place: w.place,
-        have: w.have,
-        some,
-        pass: w.pass,
-        counts,
-        limited,
-        apns,
-        back,
-    }
-}
-
-// What is watched after an element: one that is entered, by its limits; another may be an APN.
-pub(crate) fn watch(w: Going, inner: u8, limited: bool, n: usize, counts: Counts) -> Going
-    requires { Watching w n }
-    ensures { result ≡ watched_by w inner limited n counts }
-{
-    if inner == 0 {
-        return with_watch(w, w.limited, w.apns + n, w.back);
-    }
-    let c = w.counts;
-    let back = Counts {
-        rows: counts.rows,
-        kept: c.kept,
-        short: counts.short,
-        gap: counts.gap,
-    };
-    with_watch(w, limited, 0, back)
-}
-
-// One element is taken at the innermost level: `came` says whether its first value octet, `first`, has come.
-pub(crate) fn take(
-    kind: u32,
-    numbers: &[u32],
-    w: Going,
-    first: u8,
-    came: usize,
-    row: &mut [u16],
-) -> Going
-    requires { Taking kind numbers.now w came row.old }
-    ensures { Wrote result true row.new w.counts.rows (take_by kind w first came) }
-{
-    let some = w.some;
-    let h = level::head_of(&some, first);
-    let top = w.depth - 1;
-    let f = w.levels[top];
-    let lines = taking::line::of_level(numbers, f.level);
+    let h = level::head_of(&w.some, first);
+    let f = w.levels[w.depth - 1];
     let mut marks = f.marks;
-    let e = taking::element::take_one(
+    let mut row = [0; 6];
+    let mut alone = Tally {
+        counts: Counts {
+            rows: 0,
+            kept: 0,
+            ..w.counts
+        },
+        rows: &mut row,
+    };
+    let enters = take_one(
         kind,
         f.level,
-        lines,
         h,
-        nothing(&some),
+        &[],
         w.place,
         f.parent,
         &mut marks,
-        row,
-        alone(w.counts),
+        &mut alone,
     );
-    let counts = joined(w.counts, e.counts);
+    let counts = joined(w.counts, alone.counts);
     let on = Open {
-        level: f.level,
         marks,
-        parent: f.parent,
-        home: f.home,
         left: f.left - (4 + h.len),
+        ..f
     };
     let n = taking::frames::apns(h.typ, h.inst);
-    let seen = watch(w, e.inner, e.limited, n, counts);
-    let next = level::place(seen, on, e.inner, h.len, first, came, counts);
-    level::settle(kind, numbers, next)
+    let seen = watch(w, enters, n, counts);
+    let next = level::place(seen, on, enters, h.len, first, came, counts);
+    Stride {
+        state: level::settle(kind, next),
+        taken: came,
+        row: Some(row),
+    }
 }
 
 // An octet of a header is gathered.
+#[tactic(auto, unfolding(crate::specs::Coded::gather_by))]
 pub(crate) fn gather(w: Going, x: u8) -> Going
     requires { w.have ≤ 3 }
     ensures { result ≡ gather_by w x }
 {
-    let at = w.have;
     let mut some = w.some;
-    some[at] = x;
-    let levels = w.levels;
-    let counts = w.counts;
-    let back = w.back;
+    some[w.have] = x;
     Going {
-        stopped: w.stopped,
-        depth: w.depth,
-        levels,
-        place: w.place,
-        have: at + 1,
+        have: w.have + 1,
         some,
-        pass: w.pass,
-        counts,
-        limited: w.limited,
-        apns: w.apns,
-        back,
+        ..w
     }
 }
 
 // A header is whole: an element that is too long is cut, an empty one is taken, and so is another if the first value octet stands in `rest`; if not, it waits.
-pub(crate) fn headed(kind: u32, numbers: &[u32], w: Going, rest: &[u8], row: &mut [u16]) -> Walked
-    requires { Heading kind numbers.now w row.old }
-    ensures { HeadStrode kind w rest.now result row.new }
+#[tactic(auto, using(crate::proofs::Headed::strode_cut, crate::proofs::Headed::strode_empty, crate::proofs::Headed::strode_waits, crate::proofs::Headed::strode_first), unfolding(crate::specs::Coded::stop))]
+pub(crate) fn headed(kind: u32, w: Going, rest: &[u8]) -> Stride<Going>
+    requires { Heading kind w }
+    ensures { HeadStrode kind w rest.now result }
 {
-    let some = w.some;
-    let len = wide(some[1]) * 256 + wide(some[2]);
-    let top = w.depth - 1;
-    let f = w.levels[top];
-    if f.left < 4 + len {
-        return Walked {
-            going: level::stop(w),
+    let len = level::value_length(&w.some);
+    if w.levels[w.depth - 1].left < 4 + len {
+        return Stride {
+            state: Going { stopped: true, ..w },
             taken: 0,
-            wrote: false,
+            row: None,
         };
     }
-    if len == 0 {
-        return Walked {
-            going: take(kind, numbers, w, 0, 0, row),
+    match rest {
+        _ if len == 0 => take(kind, w, 0, 0),
+        [first, ..] => take(kind, w, *first, 1),
+        [] => Stride {
+            state: w,
             taken: 0,
-            wrote: true,
-        };
-    }
-    if rest.len() == 0 {
-        return Walked {
-            going: w,
-            taken: 0,
-            wrote: false,
-        };
-    }
-    Walked {
-        going: take(kind, numbers, w, rest[0], 1, row),
-        taken: 1,
-        wrote: true,
-    }
-}
-
-// So many more were taken before.
-pub(crate) fn further(s: Walked, n: usize) -> Walked
-    requires { (s.taken ≤ 1) × (n ≤ 4) }
-    ensures { result ≡ further_by s n }
-{
-    let going = s.going;
-    Walked {
-        going,
-        taken: n + s.taken,
-        wrote: s.wrote,
+            row: None,
+        },
     }
 }
 
 // One octet, or two where it makes a header whole.
-pub(crate) fn one(kind: u32, numbers: &[u32], w: Going, part: &[u8], row: &mut [u16]) -> Walked
-    requires { Stepping kind numbers.now w part.now row.old }
-    ensures { Strode kind w part.now result row.new }
+#[tactic(auto, using(crate::proofs::Headed::one_few, crate::proofs::Headed::one_three, crate::proofs::Headed::one_four, crate::proofs::Headed::ready_gather, crate::proofs::Headed::have_gather))]
+pub(crate) fn one(kind: u32, w: Going, part: &[u8]) -> Stride<Going>
+    requires { Stepping kind w part.now }
+    ensures { Strode kind w part.now result }
 {
-    if w.have < 3 {
-        return Walked {
-            going: gather(w, part[0]),
+    match w.have {
+        0..=2 => Stride {
+            state: gather(w, part[0]),
             taken: 1,
-            wrote: false,
-        };
-    }
-    if w.have == 3 {
-        return further(
-            headed(kind, numbers, gather(w, part[0]), &part[1..], row),
-            1,
-        );
-    }
-    Walked {
-        going: take(kind, numbers, w, part[0], 1, row),
-        taken: 1,
-        wrote: true,
+            row: None,
+        },
+        3 => {
+            let s = headed(kind, gather(w, part[0]), &part[1..]);
+            Stride {
+                taken: 1 + s.taken,
+                ..s
+            }
+        }
+        _ => take(kind, w, part[0], 1),
     }
 }

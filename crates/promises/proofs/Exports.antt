@@ -38,7 +38,7 @@ unfolding numbers_in octets_of
 read-numbers [] ys = refl
 read-numbers (x ∷ xs) ys = let e : number_of (x / 256) (x % 256) ≡ x = omega arith in rw (e, read-numbers xs ys)
 
-octets-length : (xs : List ℕ) → length (octets_of xs) ≡ 2 * length xs
+pub octets-length : (xs : List ℕ) → length (octets_of xs) ≡ 2 * length xs
 unfolding octets_of
 octets-length [] = refl
 octets-length (x ∷ xs) = omega (arith, octets-length xs)

@@ -56,7 +56,7 @@ fault-some : (o t i : ℕ) → eqb (fault o t i) 0 ≡ false
 unfolding fault
 fault-some o t i = ne_eqb (1 + o * 4096 + t * 16 + i) 0 (λ z. omega arith)
 
-first_one : (v : Verdict) → first (v ∷ []) ≡ cond (refuses v) v accepted
+pub first_one : (v : Verdict) → first (v ∷ []) ≡ cond (refuses v) v accepted
 unfolding first
 first_one v = refl
 

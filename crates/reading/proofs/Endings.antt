@@ -1,12 +1,12 @@
 -- The three ways in which a reading ends, each with what it answers and leaves. Assumes nothing.
 --     ends-refused   by 1 to 8          ends-cut   by 9          ends-whole   every element is taken
-use mathlib.Core.Path.{◌≡◌, refl, sym, ◌∙◌}
-use mathlib.Core.Bool.{true, false, cond}
+use mathlib.Core.Path.{◌≡◌, refl, sym, ap, ◌∙◌}
+use mathlib.Core.Bool.{true, false}
 use mathlib.Core.List.{List, [], ◌∷◌}
-use Prim.Native.Nat.{ℕ, ◌+◌, ◌-◌, ◌/◌, ◌≤◌}
+use Prim.Native.Nat.{ℕ, ◌+◌, ◌/◌, ◌≤◌}
 use native.Mathlib.Omega.{arith}
-use lib.ListN.{length, take, drop, length-drop}
-use lib.Seq.{take-nil, take_all}
+use lib.ListN.{length, drop, length-drop}
+use lib.Seq.{take-nil}
 use Rattle.rules.specs.Sizes.{row_numbers}
 use Rattle.rules.specs.Framing.{header_length}
 use Rattle.rules.specs.Listings.{book}
@@ -14,25 +14,23 @@ use Rattle.rules.specs.Standing.{Item, fresh}
 use Rattle.rules.specs.Taking.{Out, cut, whole, items_of, taken, body_level}
 use Rattle.rules.specs.Table.{rows_of, laid, fitting}
 use Rattle.rules.specs.Verdicts.{accepted, refused_at, refuses, first, cut_check, short_verdict, lack_verdict, header_checks, framing_checks}
+use Rattle.answers.specs.Refusals.{verdict_of}
+use Rattle.answers.specs.declared.Refusal.{Refusal}
+use Rattle.answers.proofs.Refusing.{named_refuses}
 use Rattle.rules.specs.Answers.{refused_reading, reading_of, read_items, read_rows, Read}
-use Rattle.rules.specs.declared.Verdict.{Verdict}
-use Rattle.rules.specs.declared.Reading.{Reading}
 use Rattle.rules.proofs.Checks.{first_append}
 use Rattle.rules.proofs.Header.{Passed, passed}
 use Rattle.rules.proofs.Rows.{Octets, octets-drop, all_fit, body-met, header-least}
 use Rattle.rules.proofs.Book.{book-sound}
 use Rattle.reading.specs.Gaps.{packed, unpacked}
-use Rattle.taking.specs.Held.{Held, held, no_counts}
-use Rattle.reading.specs.Scan.{whole_reading, scan, Ran}
+use Rattle.taking.specs.Held.{Held, held, tallied, no_counts}
+use Rattle.reading.specs.Scan.{whole_reading, reading_by, scan, walk_of, held_of, Ran}
 use Rattle.taking.specs.declared.Counts.{Counts}
-use Rattle.reading.specs.declared.Walk.TheVariants.{Cut, Whole}
-use Rattle.reading.proofs.Runs.{whole_is, cut-is}
-use Rattle.reading.proofs.Alongside.{Same, scan-cut, scan-whole}
+use Rattle.std.specs.Prelude.{⊤, Result, Ok, Err}
+use Rattle.answers.specs.declared.Refusal.TheVariants.{Cut}
+use Rattle.taking.specs.declared.Tally.{Tally}
+use Rattle.reading.proofs.Alongside.{first_one, Same, scan-cut, scan-whole}
 use Rattle.reading.proofs.Named.{unpack, short-named, lack_named}
-
-first_one : (v : Verdict) → first (v ∷ []) ≡ cond (refuses v) v accepted
-unfolding first
-first_one v = refl
 
 -- nothing is laid over what is lent
 none-laid : (rows : List ℕ) → laid (rows_of (fitting (length rows) [])) rows ≡ rows
@@ -44,11 +42,11 @@ module _ (k : ℕ) (m rows : List ℕ) where
   unfolding framing_checks
   framing-refused e = first_append (header_checks book k m) (cut_check (taken book k m) ∷ []) ∙ rw e
 
-  pub ends-refused : (v : Verdict) (r : Reading) → v ≡ first (header_checks book k m) → refuses v ≡ true → r ≡ refused_reading v → Read k m rows r rows
+  pub ends_refused : (r : Refusal) → verdict_of r ≡ first (header_checks book k m) → Read k m rows (refused_reading (verdict_of r)) rows
   unfolding reading_of read_rows read_items
-  ends-refused v r e y a =
-      let z : refuses (first (header_checks book k m)) ≡ true = rw e at y in record {
-        answers = a ∙ rw (framing-refused z, z, e);
+  ends_refused r e =
+      let z : refuses (first (header_checks book k m)) ≡ true = rw (← e) (named_refuses r) in record {
+        answers = rw (framing-refused z, z, e);
         rows_left = rw z (sym (none-laid rows));
       }
 
@@ -103,16 +101,17 @@ module _ (k : ℕ) (m rows : List ℕ) where
       walked : (o : Out Held) → scan k v fresh 0 0 at part (held c rows) ≡ o → Walked o
       walked o w = rw (← hv, ← ha, ← hp, ← hc) w
 
-      pub read-cut : {q n : ℕ} {rows' : List ℕ} → Ran (Cut q) rows' n (scan k v fresh 0 0 at part (held c rows)) → (u : Verdict) (r : Reading) → u ≡ refused_at 9 67 q 0 0 → r ≡ refused_reading u
-          → Read k m rows r rows'
-      read-cut {q} {n} {rows'} x u r hu hr =
-          let y = cut-is (scan k v fresh 0 0 at part (held c rows)) q rows' n x in
-          rw (hr, hu, y.2) (ends-cut q y.0 (walked (cut q y.0) y.1))
+      module _ {t t' : Tally} {n : ℕ} {left : List ℕ} (o : Out Held) (w : scan k v fresh 0 0 at part (held c rows) ≡ o) (hl : left ≡ t'.rows.now) where
+        pub reads_cut : {f : Refusal} {r : Result Counts Refusal} → r ≡ Err f → Ran (Err f) t t' n o → Read k m rows (reading_by r) left
+        reads_cut {f} {r} hr x = go o w x.answer x.holds
+          where
+            go : (o : Out Held) → scan k v fresh 0 0 at part (held c rows) ≡ o → ◌≡◌ {A = Result ⊤ Refusal} (Err f) (walk_of o) → tallied t' ≡ held_of o → Read k m rows (reading_by r) left
+            go (cut q s) w e l = let f' : f ≡ Cut q = cc in rw (hr, f', hl, ap (λ (h : Held). h.rows) l) (ends-cut q s (walked (cut q s) w))
+            go (whole s) w e l = let z : ◌≡◌ {A = ℕ} 0 1 = cc in absurd (omega arith)
 
-      pub read_whole : {d : Counts} {n : ℕ} {rows' : List ℕ} → Ran (Whole d) rows' n (scan k v fresh 0 0 at part (held c rows)) → (r : Reading) → r ≡ whole_reading d → Octets m → Read k m rows r rows'
-      read_whole {d} {n} {rows'} x r hr oct =
-          rw hr (ends-whole (held d rows') (walked (whole (held d rows')) (whole_is (scan k v fresh 0 0 at part (held c rows)) d rows' n x)) oct)
-
--- the octets from a place on, as they are lent
-pub rest-is : (m : List ℕ) (at : ℕ) → take (length m - at) (drop at m) ≡ drop at m
-rest-is m at = take_all (length m - at) (drop at m) (simp length-drop (omega arith))
+        pub reads_whole : Ran (Ok tt) t t' n o → Octets m → Read k m rows (whole_reading t'.counts) left
+        reads_whole x oct = go o w x.answer x.holds
+          where
+            go : (o : Out Held) → scan k v fresh 0 0 at part (held c rows) ≡ o → ◌≡◌ {A = Result ⊤ Refusal} (Ok tt) (walk_of o) → tallied t' ≡ held_of o → Read k m rows (whole_reading t'.counts) left
+            go (cut q s) w e l = let z : ◌≡◌ {A = ℕ} 0 1 = cc in absurd (omega arith)
+            go (whole s) w e l = rw (ap (λ (h : Held). h.counts) l, hl, ap (λ (h : Held). h.rows) l) (ends-whole s (walked (whole s) w) oct)

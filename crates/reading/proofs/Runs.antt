@@ -16,41 +16,44 @@ use Rattle.rules.proofs.Walks.{walk_nil, walk-cut, walk_more}
 use Rattle.rules.proofs.Covers.{group-level}
 use Rattle.rules.proofs.Book.{book-sound}
 use Rattle.taking.specs.Lacks.{lack_of}
-use Rattle.taking.specs.Held.{Held, held, one, closed, Few, Took}
+use Rattle.taking.specs.Held.{Held, held, tallied, one, closed, Few, Tallied}
 use Rattle.reading.specs.Scan.{shut, number, scan, scan_in, walk_of, held_of, Ran}
 use Rattle.taking.specs.declared.Counts.{Counts}
-use Rattle.taking.specs.declared.Taken.{Taken}
+use Rattle.taking.specs.declared.Tally.{Tally}
 use Rattle.listings.proofs.Levels.{depth}
-use Rattle.reading.specs.declared.Walk.{Walk}
-use Rattle.reading.specs.declared.Walk.TheVariants.{Cut, Whole}
+use Rattle.std.specs.Prelude.{⊤, Option, None, Some, Result, Ok, Err}
+use Rattle.answers.specs.declared.Refusal.{Refusal}
+use Rattle.answers.specs.declared.Refusal.TheVariants.{Cut}
+use Rattle.taking.specs.Lent.{level_of}
+use Rattle.taking.specs.declared.Inside.{Inside}
 
 -- ---- an outcome that is known
 
-pub ran_whole : {o : Out Held} {c : Counts} {rows : List ℕ} {n : ℕ} → o ≡ whole (held c rows) → Few c n → Ran (Whole c) rows n o
-ran_whole e f = record { answer = sym (ap walk_of e); rows_left = sym (ap (λ (o : Out Held). (held_of o).rows) e); few = f }
+pub ran_whole : {o : Out Held} {t t' : Tally} {n : ℕ} → t'.rows.ghost_name ≡ t.rows.ghost_name → o ≡ whole (tallied t') → Few t'.counts n → Ran (Ok tt) t t' n o
+ran_whole s e f = record { same = s; answer = sym (ap walk_of e); holds = sym (ap held_of e); few = f }
 
-pub ran_cut : {o : Out Held} {c : Counts} {rows : List ℕ} {n q : ℕ} → o ≡ cut q (held c rows) → q ≤ n → Ran (Cut q) rows n o
-ran_cut e f = record { answer = sym (ap walk_of e); rows_left = sym (ap (λ (o : Out Held). (held_of o).rows) e); few = f }
+pub ran_cut : {o : Out Held} {t t' : Tally} {n q : ℕ} → t'.rows.ghost_name ≡ t.rows.ghost_name → o ≡ cut q (tallied t') → Ran (Err (Cut q)) t t' n o
+ran_cut s e = record { same = s; answer = sym (ap walk_of e); holds = sym (ap held_of e); few = tt }
 
-pub ran_same : {r : Walk} {rows : List ℕ} {n : ℕ} {o o' : Out Held} → o ≡ o' → Ran r rows n o → Ran r rows n o'
-ran_same {r} {rows} {n} e x = rw e at x
+pub ran_same : {r : Result ⊤ Refusal} {t t' : Tally} {n : ℕ} {o o' : Out Held} → o ≡ o' → Ran r t t' n o → Ran r t t' n o'
+ran_same {r} {t} {t'} {n} e x = rw e at x
 
-pub ran_is : {r r' : Walk} {rows : List ℕ} {n : ℕ} {o : Out Held} → r ≡ r' → Ran r rows n o → Ran r' rows n o
+pub ran_is : {r r' : Result ⊤ Refusal} {t t' : Tally} {n : ℕ} {o : Out Held} → r ≡ r' → Ran r t t' n o → Ran r' t t' n o
 ran_is e x = rw e at x
 
--- the run is whole: what it leaves is known
-pub whole_is : (o : Out Held) (c : Counts) (rows : List ℕ) (n : ℕ) → Ran (Whole c) rows n o → o ≡ whole (held c rows)
-whole_is (cut q s) c rows n x = let k : Whole c ≡ Cut q = x.answer in let z : ◌≡◌ {A = ℕ} 0 1 = cc in absurd (omega arith)
-whole_is (whole s) c rows n x = let k : Whole c ≡ Whole s.counts = x.answer in let k' : c ≡ s.counts = cc in rw (k', x.rows_left)
+-- the run was begun on a tally that has the same lent table as another
+pub ran_from : {r : Result ⊤ Refusal} {s t t' : Tally} {n : ℕ} {o : Out Held} → t.rows.ghost_name ≡ s.rows.ghost_name → Ran r t t' n o → Ran r s t' n o
+ran_from e x = record { same = x.same ∙ e; answer = x.answer; holds = x.holds; few = x.few }
 
-pub cut-is : (o : Out Held) (q : ℕ) (rows : List ℕ) (n : ℕ) → Ran (Cut q) rows n o → (s : Held) × (o ≡ cut q s) × (rows ≡ s.rows)
-cut-is (cut p s) q rows n x = let k : Cut q ≡ Cut p = x.answer in let k' : q ≡ p = cc in (s, rw k', x.rows_left)
-cut-is (whole s) q rows n x = let w : Cut q ≡ Whole s.counts = x.answer in let z : ◌≡◌ {A = ℕ} 0 1 = cc in absurd (omega arith)
+-- the run is whole: what it leaves is known
+pub whole_is : (o : Out Held) (t t' : Tally) (n : ℕ) → Ran (Ok tt) t t' n o → o ≡ whole (tallied t')
+whole_is (cut q s) t t' n x = let k : ◌≡◌ {A = Result ⊤ Refusal} (Ok tt) (Err (Cut q)) = x.answer in let z : ◌≡◌ {A = ℕ} 0 1 = cc in absurd (omega arith)
+whole_is (whole s) t t' n x = rw x.holds
 
 -- the run is cut: what would have followed does not matter
-cut-after : (o : Out Held) (f : Held → Out Held) (q : ℕ) (rows : List ℕ) (n m : ℕ) → Ran (Cut q) rows n o → n ≤ m → Ran (Cut q) rows m (after o f)
-cut-after (cut p s) f q rows n m x h = record { answer = x.answer; rows_left = x.rows_left; few = omega (arith, x.few) }
-cut-after (whole s) f q rows n m x h = let w : Cut q ≡ Whole s.counts = x.answer in let z : ◌≡◌ {A = ℕ} 0 1 = cc in absurd (omega arith)
+cut-after : (o : Out Held) (f : Held → Out Held) (e : Refusal) (t t' : Tally) (n m : ℕ) → Ran (Err e) t t' n o → Ran (Err e) t t' m (after o f)
+cut-after (cut p s) f e t t' n m x = record { same = x.same; answer = x.answer; holds = x.holds; few = tt }
+cut-after (whole s) f e t t' n m x = let w : ◌≡◌ {A = Result ⊤ Refusal} (Err e) (Ok tt) = x.answer in let z : ◌≡◌ {A = ℕ} 0 1 = cc in absurd (omega arith)
 
 -- ---- the run ends, or is cut
 
@@ -85,12 +88,12 @@ group-within part at len = simp (length-take, length-drop) (omega arith)
 
 -- ---- one element
 
-module _ {k v : ℕ} {m m' : List ℕ} {p : ℕ} {c : Counts} {rows rows₁ : List ℕ} {h : Head} {e : Taken} (o base : ℕ) (part : List ℕ) (at : ℕ)
+module _ {k v : ℕ} {m m' : List ℕ} {p : ℕ} {t t₁ : Tally} {h : Head} {e : Option Inside} (o base : ℕ) (part : List ℕ) (at : ℕ)
     (lt : at < length part)
     (hh : h ≡ head_of (drop at part))
     (hw : h.whole ≡ true)
     (fits : at + 4 + h.len ≤ length part)
-    (took : Took e m' rows₁ k v m p (base + at) (element h (frames_of (take (at + 4 + h.len - (at + 4)) (drop (at + 4) part)))) (held c rows)) where
+    (took : Tallied e m' t₁ k v m p (base + at) (element h (frames_of (take (at + 4 + h.len - (at + 4)) (drop (at + 4) part)))) t) where
   abbrev group : List ℕ
   group = take (at + 4 + h.len - (at + 4)) (drop (at + 4) part)
 
@@ -104,8 +107,8 @@ module _ {k v : ℕ} {m m' : List ℕ} {p : ℕ} {c : Counts} {rows rows₁ : Li
       let n : at + 4 + h.len - (at + 4) ≡ h.len = omega arith in
       rw (← hh, drop-drop 4 at part, n)
 
-  unfolds : scan k v m p o (base + at) (drop at part) (held c rows)
-      ≡ after (scan_in k e.inner (base + at) group (held e.counts rows₁)) (scan k v m' p o (base + (at + 4 + h.len)) (drop (at + 4 + h.len) part))
+  unfolds : scan k v m p o (base + at) (drop at part) (tallied t)
+      ≡ after (scan_in k (level_of e) (base + at) group (tallied t₁)) (scan k v m' p o (base + (at + 4 + h.len)) (drop (at + 4 + h.len) part))
   unfolds =
       let pos : 0 < length (drop at part) = simp length-drop (omega arith) in
       let i₁ : at + 4 + h.len - (at + 4) ≡ h.len = omega arith in
@@ -113,23 +116,35 @@ module _ {k v : ℕ} {m m' : List ℕ} {p : ℕ} {c : Counts} {rows rows₁ : Li
       let i₃ : at + 4 + h.len ≡ at + (4 + h.len) = omega arith in
       let l₁ : drop 4 (drop at part) ≡ drop (at + 4) part = drop-drop 4 at part in
       let l₂ : drop (4 + h.len) (drop at part) ≡ drop (at + 4 + h.len) part = drop-drop (4 + h.len) at part ∙ ap (λ (n : ℕ). drop n part) (sym i₃) in
-      walk_more book k Held one (shut k) number v m p o (base + at) (drop at part) (held c rows) pos (ap (λ (x : Element). x.whole) stands ∙ hw)
-      ∙ rw (stands, ← took.holds, ← took.marks, ← took.level, l₁, l₂, i₁, i₂)
+      walk_more book k Held one (shut k) number v m p o (base + at) (drop at part) (tallied t) pos (ap (λ (x : Element). x.whole) stands ∙ hw)
+      ∙ rw (stands, ← took.took.holds, ← took.took.marks, ← took.took.level, l₁, l₂, i₁, i₂)
 
   -- it is not entered
-  pub passes : e.inner ≡ 0
-      → scan k v m p o (base + at) (drop at part) (held c rows) ≡ scan k v m' p o (base + (at + 4 + h.len)) (drop (at + 4 + h.len) part) (held e.counts rows₁)
-  passes z = unfolds ∙ rw (z, no_group k (base + at) group (held e.counts rows₁))
+  pub passes : e ≡ None
+      → scan k v m p o (base + at) (drop at part) (tallied t) ≡ scan k v m' p o (base + (at + 4 + h.len)) (drop (at + 4 + h.len) part) (tallied t₁)
+  passes z = unfolds ∙ rw (z, no_group k (base + at) group (tallied t₁))
 
-  -- its inside is whole
-  pub goes_on : {c₂ : Counts} {rows₂ : List ℕ} {n : ℕ} → Ran (Whole c₂) rows₂ n (scan_in k e.inner (base + at) group (held e.counts rows₁))
-      → scan k v m p o (base + at) (drop at part) (held c rows) ≡ scan k v m' p o (base + (at + 4 + h.len)) (drop (at + 4 + h.len) part) (held c₂ rows₂)
-  goes_on {c₂} {rows₂} {n} x = unfolds ∙ rw (whole_is (scan_in k e.inner (base + at) group (held e.counts rows₁)) c₂ rows₂ n x)
+  -- it is entered
+  module _ {i : Inside} (z : e ≡ Some i) where
+    pub inside-some : 0 < i.level
+    inside-some = rw z at took.took.some
 
-  -- its inside is cut
-  pub stops : {q : ℕ} {rows₂ : List ℕ} {n j : ℕ} → Ran (Cut q) rows₂ n (scan_in k e.inner (base + at) group (held e.counts rows₁)) → n ≤ j
-      → Ran (Cut q) rows₂ j (scan k v m p o (base + at) (drop at part) (held c rows))
-  stops {q} {rows₂} {n} {j} x g = ran_same (sym unfolds) (cut-after (scan_in k e.inner (base + at) group (held e.counts rows₁)) _ q rows₂ n j x g)
+    pub inside-low : i.level < length book.levels
+    inside-low = inner-low k v m (element h (frames_of group)) i.level (rw z at took.took.level)
+
+    enters : scan k v m p o (base + at) (drop at part) (tallied t)
+        ≡ after (scan_in k i.level (base + at) group (tallied t₁)) (scan k v m' p o (base + (at + 4 + h.len)) (drop (at + 4 + h.len) part))
+    enters = unfolds ∙ rw z
+
+    -- its inside is whole
+    pub goes_on : {t₂ : Tally} {n : ℕ} → Ran (Ok tt) t₁ t₂ n (scan_in k i.level (base + at) group (tallied t₁))
+        → scan k v m p o (base + at) (drop at part) (tallied t) ≡ scan k v m' p o (base + (at + 4 + h.len)) (drop (at + 4 + h.len) part) (tallied t₂)
+    goes_on {t₂} {n} x = enters ∙ rw (whole_is (scan_in k i.level (base + at) group (tallied t₁)) t₁ t₂ n x)
+
+    -- its inside is cut
+    pub stops : {f : Refusal} {t₂ : Tally} {n j : ℕ} → Ran (Err f) t₁ t₂ n (scan_in k i.level (base + at) group (tallied t₁))
+        → Ran (Err f) t t₂ j (scan k v m p o (base + at) (drop at part) (tallied t))
+    stops {f} {t₂} {n} {j} x = ran_same (sym enters) (ran_from took.same (cut-after (scan_in k i.level (base + at) group (tallied t₁)) _ f t₁ t₂ n j x))
 
 -- ---- what closing the level leaves
 
@@ -143,8 +158,8 @@ few-closed c c' l e f h = rw e (record { kept = f.kept; rows = omega (arith, f.r
 
 -- ---- the loop's invariant: the walk of what is left, from what is held now, is the walk of the whole part from what was held at entry
 
-pub record Turning (k v p o base : ℕ) (part rows₀ : List ℕ) (c₀ : Counts) (rows seen : List ℕ) (c : Counts) (at : ℕ) : Type 0 where
+pub record Turning (k v p o base : ℕ) (part : List ℕ) (t₀ t : Tally) (seen : List ℕ) (at : ℕ) : Type 0 where
   pub passed : at ≤ length part
-  pub few : Few c (base + at)
-  pub room : length rows ≡ length rows₀
-  pub goes : scan k v seen p o (base + at) (drop at part) (held c rows) ≡ scan k v fresh p o base part (held c₀ rows₀)
+  pub few : Few t.counts (base + at)
+  pub same : t.rows.ghost_name ≡ t₀.rows.ghost_name
+  pub goes : scan k v seen p o (base + at) (drop at part) (tallied t) ≡ scan k v fresh p o base part (tallied t₀)

@@ -1,6 +1,6 @@
 -- How the code finds the first level that lacks a pair as it walks: the least over all levels as they end. A place with a pair is one number
 -- that grows with the place; 0 is none. Assumes nothing.
-use Rattle.std.specs.Prelude.{ℕ, ◌+◌, ◌-◌, ◌/◌, ◌%◌, cond, List, eqb}
+use Rattle.std.specs.Prelude.{◌≡◌, ℕ, ◌+◌, ◌-◌, ◌/◌, ◌%◌, ◌<◌, cond, List, eqb, Option, MatchOption}
 use Rattle.rules.specs.Listings.{Book}
 use Rattle.rules.specs.Standing.{Item}
 use Rattle.rules.specs.Taking.{Out, walk}
@@ -16,6 +16,10 @@ packed v = cond (refuses v) (fault v.place v.typ v.inst) 0
 -- and back: the refusal of that number and cause that names it
 unfoldable pub unpacked : ℕ → ℕ → ℕ → Verdict
 unpacked n cause f = cond (eqb f 0) accepted (refused_at n cause ((f - 1) / 4096 % 65536) ((f - 1) / 16 % 256) ((f - 1) % 16))
+
+-- the place and the pair that a number names, which 0 does not
+abbrev pub Named : ℕ → Option (ℕ × ℕ × ℕ) → Type 0
+Named f r = MatchOption r (f ≡ 0) (λ p. (0 < f) × (p.0 ≡ (f - 1) / 4096 % 65536) × (p.1 ≡ (f - 1) / 16 % 256) × (p.2 ≡ (f - 1) % 16))
 
 -- rows so far, and the least gap so far
 pub record Gap : Type 0 where

@@ -2,14 +2,12 @@
 -- are no group. Assumes nothing.
 --     few-read   a reading takes at most 1,022 elements, of a message that is cut too
 --     end_is     the loop over the rows finds what the definition says
-use mathlib.Core.Path.{◌≡◌, refl, sym, ap, ◌∙◌}
-use mathlib.Core.Bool.{Bool, true, false, cond, ◌&&◌}
+use mathlib.Core.Path.{◌≡◌, refl, sym, ◌∙◌}
+use mathlib.Core.Bool.{Bool, true, false, cond}
 use mathlib.Core.List.{List, [], ◌∷◌, ◌++◌}
 use Prim.Native.Nat.{ℕ, zero, suc, ◌+◌, ◌-◌, ◌*◌, ◌/◌, ◌≤◌, ◌<◌}
 use native.Mathlib.Omega.{arith}
 use native.Mathlib.Decide.{dec_lt}
-use native.Mathlib.Numerals.{add-one}
-use lib.Dec.{ltb, leb}
 use lib.ListN.{length, take, drop, get_or, replicate, length-drop}
 use lib.Seq.{get_or-append-add, get_or-drop, take-suc, take_all}
 use Rattle.rules.specs.Sizes.{row_numbers}
@@ -29,7 +27,6 @@ use Rattle.verdicts.proofs.Parts.{Part, part_of, part-walk, part-walked}
 use Rattle.scratch.specs.Zeros.{Zeros}
 use Rattle.masking.specs.Clearing.{number}
 use Rattle.masking.proofs.Rowed.{number_is}
-use Rattle.columns.specs.Values.{entered}
 use Rattle.refusing.specs.Levels.{holds, level_end, inner_end, end_after}
 
 -- ---- the elements before a cut
@@ -115,33 +112,3 @@ end_is k m {rows} {rows'} z x q end =
     let all : take (6132 / 6) is ≡ is = take_all 1022 is (few-read k m) in
     let e : rows' ≡ laid (rows_of is) (replicate 6132 0) = x.rows_left ∙ rw (← z.size, all, z.is) in
     ends_at is 6132 rows' e q 1022 end ∙ rw (take_all 1022 is (few-read k m))
-
--- ---- one row, by what the code finds
-
-module _ (rows : List ℕ) (row q end : ℕ) {t s : ℕ} (a : t ≡ number rows row 1) (b : s ≡ number rows row 5) {in_it : Bool} (e : in_it ≡ entered t s) where
-  pub row-entered : in_it ≡ true → {x y place len r : ℕ} → x ≡ number rows row 3 → y ≡ number rows row 4 → place ≡ x → len ≡ y
-      → r ≡ cond (leb place q && ltb q (place + len)) (place + len) end → r ≡ inner_end rows row q end
-  unfolding inner_end holds
-  row-entered f c d g h p = p ∙ rw (g, h, c, d, ← a, ← b, ← e, f)
-
-  pub row-passed : in_it ≡ false → end ≡ inner_end rows row q end
-  unfolding inner_end holds
-  row-passed f = rw (← a, ← b, ← e, f)
-
--- ---- the loop over the rows
-
-pub record Ending (rows : List ℕ) (q size end n : ℕ) : Type 0 where
-  pub is : end ≡ end_after rows q size n
-  pub few : n ≤ 1022
-
-pub ending-start : (rows : List ℕ) (q size : ℕ) → Ending rows q size size 0
-unfolding end_after
-ending-start rows q size = record { is = refl; few = omega arith }
-
-module _ {rows : List ℕ} {q size end n : ℕ} (i : Ending rows q size end n) where
-  pub ending-next : {after : ℕ} → n < 1022 → after ≡ inner_end rows n q end → Ending rows q size after (n + 1)
-  unfolding end_after
-  ending-next l e = record { is = rw (add-one n) (e ∙ ap (inner_end rows n q) i.is); few = omega arith }
-
-  pub ending-all : 1022 ≤ n → end ≡ end_after rows q size 1022
-  ending-all l = let e : n ≡ 1022 = omega (arith, i.few) in rw (← e) i.is

@@ -1,4 +1,3 @@
 pub mod Ends
-pub mod Paging
 pub mod Lengths
 pub mod Reasons

@@ -1,96 +1,74 @@
 // The page on a message that 1 to 9 refuse: a title, and what is wrong with its figures; and its octets for a viewer with the right.
 #![tactic(auto)]
 
-ghost use Rattle.std.specs.Prelude.{◌≡◌, cond, ◌+◌, ◌*◌, ◌/◌, ◌%◌, eqb, ltb};
-ghost use Rattle.wording.specs.Puts.{Puts};
-ghost use Rattle.refusing.specs.Refused.{claim, refused_run, title_number, refused_lines, refused_page};
+ghost use Rattle.std.specs.Prelude.{◌≡◌, cond, ◌+◌, ◌*◌, ltb};
+ghost use Rattle.wording.specs.Sheets.{Writes};
+ghost use Rattle.refusing.specs.Refused.{refused_run, title_number, refused_page};
 
 use columns::View;
-use phrases::runs::{narrow, octet_at};
-use phrases::sentences::say;
-use phrases::{PAGES, VERDICTS};
+use phrases::runs::{get_or, narrow};
+use phrases::sections::Section;
+use phrases::sentences::Words;
 use rules::Verdict;
+use wording::Sheet;
 
 mod dumps;
 mod levels;
-
-fn pick(c: bool, yes: u16, no: u16) -> u16
-    ensures { result ≡ cond c yes no }
-{
-    if c {
-        return yes;
-    }
-    no
-}
 
 // The length that two octets give the message, 0 if it has more than 16 bits.
 fn claim(high: u8, low: u8) -> u16
     ensures { result ≡ cond (ltb 65535 (high * 256 + low + 4)) 0 (high * 256 + low + 4) }
 {
-    let n = high as u32 * 256 + low as u32 + 4;
-    if 65535 < n {
-        return 0;
-    }
-    n as u16
+    u16::from_be_bytes([high, low]).checked_add(4).unwrap_or(0)
 }
 
-// The numbers that are said of a refusal.
+// The numbers that are said of a refusal, by place, as slots ask for them. A `u32` has no `From` to a `usize`.
 fn run(kind: u32, message: &[u8], v: Verdict, reason: u16) -> [u16; 14]
     ensures { result ≡ refused_run kind message.now v reason }
 {
-    let first = octet_at(message, 0);
-    let t = first / 8 % 2 == 1;
+    let first = get_or(message, 0, 0);
+    let (header, flag, other) = if first / 8 % 2 == 1 {
+        (12, 1, 0)
+    } else {
+        (8, 0, 1)
+    };
     [
         narrow(kind as usize),
         narrow(message.len()),
-        octet_at(message, 1) as u16,
+        u16::from(get_or(message, 1, 0)),
         v.code,
         v.cause,
         v.place,
         v.typ,
         v.inst,
-        (first / 32) as u16,
-        pick(t, 12, 8),
-        claim(octet_at(message, 2), octet_at(message, 3)),
-        pick(t, 1, 0),
-        pick(t, 0, 1),
+        u16::from(first / 32),
+        header,
+        claim(get_or(message, 2, 0), get_or(message, 3, 0)),
+        flag,
+        other,
         reason,
     ]
 }
 
-// 1 to 4 say nothing of the message's type.
+// 1 to 4 say nothing of the message's type. A text's number, by the verdict's.
 fn title_number(v: Verdict) -> u16
     ensures { result ≡ title_number v }
 {
-    if v.code < 5 {
-        return 0;
-    }
-    1
-}
-
-fn lines(names: &[u8], v: Verdict, run: &[u16], at: usize, out: &mut [u8]) -> usize
-    ensures { Puts (refused_lines names.now v run.now) at out.old result out.new }
-{
-    let after = say(PAGES, title_number(v), names, run, at, out);
-    say(VERDICTS, v.code, names, run, after, out)
+    if v.code < 5 { 0 } else { 1 }
 }
 
 // The page, for a verdict on a message.
-pub fn refused_page(
-    names: &[u8],
-    view: View,
-    v: Verdict,
-    message: &[u8],
-    at: usize,
-    out: &mut [u8],
-) -> usize
-    ensures { Puts (refused_page names.now view v message.now) at out.old result out.new }
+pub fn refused_page(names: &[u8], view: View, v: Verdict, message: &[u8], sheet: &mut Sheet)
+    ensures { Writes (refused_page names.now view v message.now) sheet.old sheet.new }
 {
     let reason = levels::reason(view.kind, message, v);
-    let numbers = run(view.kind, message, v, reason);
-    let after = lines(names, v, &numbers, at, out);
+    let words = Words {
+        names,
+        run: &run(view.kind, message, v, reason),
+    };
+    words.say(Section::Pages, title_number(v), sheet);
+    words.say(Section::Verdicts, v.code, sheet);
     if view.right {
-        return dumps::dump(message, after, out);
+        dumps::dump(message, sheet);
     }
-    after
 }

@@ -1,5 +1,6 @@
 // The answers that the rules name, and what is read off one element's header. This crate has no function: the rules are
-// definitions in specs/, and the laws about them are in proofs/.
+// definitions in specs/, and the laws about them are in proofs/. C is told of these as numbers, and what is promised speaks of them so: a refusal is a
+// code that is not 0. The code itself answers `Option` and `Result`, and says which of these each stands for (`answers`, `Refusals`).
 #![tactic(auto)]
 
 // A verdict is five numbers; acceptance is five zeros.

@@ -8,7 +8,8 @@ use borrow.Author.Tests.{lt-ltb, le-ltb}
 use lib.Dec.{ltb}
 use lib.ListN.{length}
 use Rattle.rules.specs.Framing.{two_octets, element_header, header_length}
-use Rattle.scratch.specs.Guessing.{crowded_from, Start, Two}
+use Rattle.heading.specs.Header.{Start}
+use Rattle.scratch.specs.Guessing.{crowded_from, Two}
 
 -- after n siblings, at a place from which the rest says what all say
 pub record Guess (m : List ℕ) (at n : ℕ) : Type 0 where

@@ -1,5 +1,5 @@
 -- Which scratch a caller tries first. A guess that fails costs time, and no answer. Assumes nothing.
-use Rattle.std.specs.Prelude.{◌≡◌, ℕ, zero, suc, ◌+◌, ◌*◌, ◌≤◌, ◌<◌, Bool, false, cond, List, ltb, leb, length}
+use Rattle.std.specs.Prelude.{◌≡◌, ℕ, zero, suc, ◌+◌, ◌*◌, ◌<◌, Bool, false, cond, List, ltb, leb, length}
 use Rattle.rules.specs.Framing.{two_octets, element_header, header_length}
 
 -- by their length fields alone, do the next n siblings from `at` on end within the first eighth of the message?
@@ -12,10 +12,6 @@ unfoldable pub crowded : List ℕ → Bool
 crowded m = cond (leb (length m) 264) false (crowded_from m (header_length m) 8)
 
 -- ---- the parts of contracts: numbers that are small enough to be summed
-
-pub record Start (m : List ℕ) (r : ℕ) : Type 0 where
-  pub is : r ≡ header_length m
-  pub most : r ≤ 12
 
 pub record Two (m : List ℕ) (at r : ℕ) : Type 0 where
   pub is : r ≡ two_octets m at

@@ -1,11 +1,12 @@
 -- The page by the call's verdict, by way of a copy in its room, and cut. Assumes nothing.
-use mathlib.Core.Path.{◌≡◌, refl, sym, ap, subst, ◌∙◌}
+use mathlib.Core.Path.{◌≡◌, refl, sym, ap, ◌∙◌}
 use mathlib.Core.Bool.{Bool, true, false}
 use mathlib.Core.List.{List, ◌∷◌}
-use Prim.Native.Nat.{ℕ, zero, suc, ◌≤◌}
+use Prim.Native.Nat.{ℕ, zero, suc, ◌≤◌, min}
 use native.Mathlib.Omega.{arith}
-use lib.ListN.{length, take, replicate}
-use lib.Seq.{take_all}
+use lib.ListN.{length, take, replicate, length-take}
+use Rattle.std.proofs.lemmas.List.{take_min}
+use Rattle.std.proofs.Math.Nat.{min-le_left, min-le_right, min_comm}
 use Rattle.rules.specs.Sizes.{most_rows, used}
 use Rattle.rules.specs.Types.{among}
 use Rattle.rules.specs.Listings.{book}
@@ -17,11 +18,9 @@ use Rattle.tables.specs.Words.{rows}
 use Rattle.tables.specs.IsTable.{IsTable}
 use Rattle.verdicts.specs.Conditions.{copying_numbers}
 use Rattle.verdicts.proofs.Calling.{framing-passes, tabled, call_framing, fits, copies_iff}
-use Rattle.wording.specs.Puts.{Puts}
-use Rattle.wording.proofs.Puts.{then-puts}
-use Rattle.columns.specs.Rows.{row_lines}
+use Rattle.wording.specs.declared.Sheet.{Sheet}
+use Rattle.wording.specs.Sheets.{Writes}
 use Rattle.columns.specs.declared.View.{View}
-use Rattle.titles.specs.Titles.{title_text}
 use Rattle.refusing.specs.Refused.{refused_page}
 use Rattle.showing.specs.Showing.{read_page, page, page_of, page_on, Listed}
 
@@ -29,14 +28,6 @@ pub front-room : (n c : ℕ) → n ≤ c → take n (replicate {A = ℕ} c 0) �
 front-room zero c l = refl
 front-room (suc n) zero l = absurd (omega arith)
 front-room (suc n) (suc c) l = ap (0 ∷◌) (front-room n c (omega arith))
-
--- ---- over the rows, and the rows
-
-module _ (names : List ℕ) (w : View) (v : Verdict) (table m copy : List ℕ) {at₀ at₁ at₂ : ℕ} {out₀ out₁ out₂ : List ℕ} where
-  pub read-put : Puts (title_text names w.kind v table copy) at₀ out₀ at₁ out₁ → Puts (row_lines names w v table m copy) at₁ out₁ at₂ out₂
-      → Puts (read_page names w v table m copy) at₀ out₀ at₂ out₂
-  unfolding read_page
-  read-put p q = then-puts p q
 
 -- ---- by the call's verdict: with room for every row, and a copy of zeros as long as the message, it makes a copy exactly where 1 to 9 pass
 
@@ -67,24 +58,23 @@ module _ (names : List ℕ) (w : View) (m : List ℕ) {v : Verdict} {table copy 
           let y : ◌≡◌ {A = ℕ} 0 1 = cc in
           absurd (omega arith)
 
-  module _ {r : ℕ} {out out' : List ℕ} where
-    pub page-refused : among v.code copying_numbers ≡ false → Puts (refused_page names w v m) 0 out r out' → Puts (page_of names w m) 0 out r out'
+  module _ {s t : Sheet} where
+    pub page-refused : among v.code copying_numbers ≡ false → Writes (refused_page names w v m) s t → Writes (page_of names w m) s t
     unfolding page_of page
     page-refused c p =
         let e = framed_out c in
         let z : v ≡ framing = x.answers ∙ call_framing book book-sound k m (length m) (used most_rows) e in
         rw e (rw z at p)
 
-    pub page-read : among v.code copying_numbers ≡ true → Puts (read_page names w v table m copy) 0 out r out' → Puts (page_of names w m) 0 out r out'
+    pub page-read : among v.code copying_numbers ≡ true → Writes (read_page names w v table m copy) s t → Writes (page_of names w m) s t
     unfolding page_of page
     page-read c p = let e = passed c in rw (e, ← x.answers, ← x.listed e, ← x.copied) p
 
 -- ---- of a message its first 4,097 octets
 
-pub whole : (names : List ℕ) (w : View) (m : List ℕ) {r : ℕ} {out out' : List ℕ} → length m ≤ 4097 → Puts (page_of names w m) 0 out r out' → Puts (page_on names w m) 0 out r out'
+pub counted_only : (names : List ℕ) (w : View) (m : List ℕ) {n : ℕ} {s t : Sheet} → n ≡ min (length m) 4097 → Writes (page_of names w (take n m)) s t → Writes (page_on names w m) s t
 unfolding page_on
-whole names w m {r} {out} {out'} l p = subst (λ (x : List ℕ). Puts (page_of names w x) 0 out r out') (sym (take_all 4097 m l)) p
+counted_only names w m e p = rw (ap (λ i. take i m) (e ∙ min_comm (length m) 4097) ∙ take_min 4097 m) at p
 
-pub cut : (names : List ℕ) (w : View) (m : List ℕ) {r : ℕ} {out out' : List ℕ} → Puts (page_of names w (take 4097 m)) 0 out r out' → Puts (page_on names w m) 0 out r out'
-unfolding page_on
-cut names w m p = p
+pub few-counted : (m : List ℕ) {n : ℕ} → n ≡ min (length m) 4097 → length (take n m) ≤ 4097
+few-counted m {n = n} e = omega (arith, e, length-take n m, min-le_left n (length m), min-le_right (length m) 4097)

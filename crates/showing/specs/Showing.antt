@@ -9,6 +9,7 @@ use Rattle.rules.specs.Verdicts.{refuses, first, framing_checks, call_verdict, i
 use Rattle.rules.specs.Covered.{call_copy}
 use Rattle.rules.specs.declared.Verdict.{Verdict}
 use Rattle.columns.specs.Rows.{row_lines}
+use Rattle.columns.specs.declared.Listing.{Listing}
 use Rattle.columns.specs.declared.View.{View}
 use Rattle.titles.specs.Titles.{title_text}
 use Rattle.refusing.specs.Refused.{refused_page}
@@ -18,6 +19,10 @@ use Rattle.refusing.specs.Refused.{refused_page}
 -- by the verdict, the table, the message and its masked copy: what is not a value is read from the copy
 unfoldable pub read_page : List ℕ → View → Verdict → List ℕ → List ℕ → List ℕ → List ℕ
 read_page names w v table m copy = title_text names w.kind v table copy ++ row_lines names w v table m copy
+
+-- with what it is made from
+abbrev pub read_page_of : Listing → List ℕ
+read_page_of l = read_page l.names.now l.view l.verdict l.table.now l.message.now l.copy.now
 
 -- ---- the page on a message
 

@@ -10,7 +10,7 @@ use borrow.Author.Tests.{eqb-true}
 use lib.Dec.{eqb, ltb}
 use lib.ListN.{length, drop, get_or, length-drop}
 use lib.Seq.{drop-drop}
-use Rattle.rules.specs.Framing.{element_header, head_of}
+use Rattle.rules.specs.Framing.{element_header, head_of, no_head}
 use Rattle.rules.specs.Listings.{Limit, Line, empty_line, levels, book, listing}
 use Rattle.rules.specs.Frames.{filled_by, frames_by, frames_of, tally, exceeds}
 use Rattle.rules.specs.Sound.{every_line, no_limits, is_free}
@@ -20,7 +20,7 @@ use Rattle.rules.proofs.Frames.{frames-enough}
 use Rattle.rules.proofs.Walks.{rest_shorter}
 use Rattle.rules.proofs.Covers.{free-exceeds}
 use Rattle.taking.specs.Frames.{apn, most_apns, crowd_from, crowd, only_apns, apns_alone, IsApn}
-use Rattle.taking.specs.Held.{Looked}
+use Rattle.taking.specs.Held.{Looked, Stands}
 
 -- ---- one turn
 
@@ -62,21 +62,21 @@ module _ {value : List ℕ} {at n : ℕ} (s : Crowding value at n) where
   pub crowd-ends : length value ≤ at → ltb most_apns n ≡ crowd value
   crowd-ends l = sym (crowd-none n (drop at value) (simp length-drop (omega arith))) ∙ s.goes
 
-  module _ (l : at < length value) (h : Head) (k : Looked value at h) where
+  module _ (l : at < length value) where
     pos : 0 < length (drop at value)
     pos = simp length-drop (omega arith)
 
-    pub crowd-breaks : h.whole ≡ false → false ≡ crowd value
-    crowd-breaks w = sym (crowd-cut n (drop at value) pos (ap (λ (x : Head). x.whole) (sym k.is) ∙ w)) ∙ s.goes
+    pub crowd-breaks : Looked value at no_head → false ≡ crowd value
+    crowd-breaks k = sym (crowd-cut n (drop at value) pos (ap (λ (x : Head). x.whole) (sym k.is))) ∙ s.goes
 
-    pub crowd-turns : h.whole ≡ true → {r : ℕ} → IsApn h.typ h.inst r → Crowding value (at + (4 + h.len)) (n + r)
-    crowd-turns w {r} a =
-        let e = crowd-more n (drop at value) pos (ap (λ (x : Head). x.whole) (sym k.is) ∙ w) in
+    pub crowd-turns : {h : Head} → Stands value at h → {r : ℕ} → IsApn h.typ h.inst r → Crowding value (at + (4 + h.len)) (n + r)
+    crowd-turns {h} k {r} a =
+        let e = crowd-more n (drop at value) pos (ap (λ (x : Head). x.whole) (sym k.looked.is) ∙ k.whole) in
         let d = drop-drop (4 + h.len) at value in
         record {
-          passed = omega (arith, k.lies w);
+          passed = omega (arith, k.looked.lies k.whole);
           few = omega (arith, s.few, a.low);
-          goes = rw a.is (sym (rw (← k.is, d) at e) ∙ s.goes);
+          goes = rw a.is (sym (rw (← k.looked.is, d) at e) ∙ s.goes);
         }
 
 -- ---- the limits of the listings

@@ -1,55 +1,61 @@
--- What `head_of` finds at a position of a list, by what the code reads there. Assumes nothing.
-use mathlib.Core.Path.{◌≡◌, sym, ◌∙◌}
-use mathlib.Core.Bool.{true, cond}
+-- What `head_of` finds at a position of a list, by what the code reads of the octets from there on. Assumes nothing.
+use mathlib.Core.Path.{◌≡◌, refl, sym, ap, ◌∙◌}
+use mathlib.Core.Bool.{true}
 use mathlib.Core.List.{List}
-use Prim.Native.Nat.{ℕ, ◌+◌, ◌-◌, ◌*◌, ◌%◌, ◌≤◌, ◌<◌}
+use Prim.Native.Nat.{ℕ, ◌-◌, ◌%◌, ◌≤◌, ◌<◌}
 use native.Mathlib.Omega.{arith}
-use native.Mathlib.Nat.{add-zero}
 use borrow.Author.Tests.{le-leb, lt-leb, eq-eqb, ne_eqb}
-use lib.Dec.{eqb}
-use lib.ListN.{length, drop, get_or, length-drop}
-use lib.Seq.{get_or-drop}
+use lib.ListN.{length, take, drop, get_or, length-drop}
+use lib.Seq.{get_or-drop, take_all}
 use Rattle.rules.specs.Framing.{head_of, no_head, value_length, first_octet}
 use Rattle.rules.specs.declared.Head.{Head}
-use Rattle.taking.specs.Held.{Looked}
+use Rattle.taking.specs.Held.{Looked, Stands}
 
--- no whole element stands there
-none : (xs : List ℕ) (at : ℕ) (r : Head) → r ≡ no_head → no_head ≡ head_of (drop at xs) → Looked xs at r
-none xs at r e h = record { is = e ∙ h; lies = rw e (λ z. let y : ◌≡◌ {A = ℕ} 0 1 = cc in absurd (omega arith)); inst = rw e (omega arith) }
+-- the octets from a place on, as they are lent
+pub rest-is : (xs : List ℕ) (at : ℕ) → take (length xs - at) (drop at xs) ≡ drop at xs
+rest-is xs at = take_all (length xs - at) (drop at xs) (simp length-drop (omega arith))
 
-pub look-few : (xs : List ℕ) (at : ℕ) (r : Head) → r ≡ no_head → length xs - at < 4 → Looked xs at r
-unfolding head_of
-look-few xs at r e h =
-    let l : length (drop at xs) < 4 = simp length-drop h in
-    none xs at r e (simp (lt-leb _ _ l))
+module _ (xs : List ℕ) (at : ℕ) where
+  abbrev ys : List ℕ
+  ys = take (length xs - at) (drop at xs)
 
-module _ (xs : List ℕ) (at a b : ℕ) (le : 4 ≤ length xs - at) (ha : a ≡ get_or xs (at + 1) 0) (hb : b ≡ get_or xs (at + 2) 0) where
-  len-here : value_length (drop at xs) ≡ a * 256 + b
-  len-here = simp get_or-drop (cc)
+  e : ys ≡ drop at xs
+  e = rest-is xs at
 
-  four : 4 ≤ length (drop at xs)
-  four = simp length-drop le
+  -- no whole element stands there
+  none : no_head ≡ head_of ys → Looked xs at no_head
+  none h = record { is = h ∙ ap head_of e; lies = λ z. let y : ◌≡◌ {A = ℕ} 0 1 = cc in absurd (omega arith); inst = omega arith }
 
-  pub look-long : (r : Head) → r ≡ no_head → length xs - at - 4 < a * 256 + b → Looked xs at r
+  pub look-few : length ys < 4 → Looked xs at no_head
   unfolding head_of
-  look-long r e h =
-      let l : length (drop at xs) - 4 < value_length (drop at xs) = rw len-here (simp length-drop h) in
-      none xs at r e (simp (le-leb _ _ four, lt-leb _ _ l))
+  look-few h = none (simp (lt-leb _ _ h))
 
-  whole_here : a * 256 + b ≤ length xs - at - 4
-      → ◌≡◌ {A = Head} (record { whole = true; typ = get_or xs at 0; inst = get_or xs (at + 3) 0 % 16; len = a * 256 + b; first = cond (eqb (a * 256 + b) 0) 0 (get_or xs (at + 4) 0) }) (head_of (drop at xs))
-  unfolding head_of
-  whole_here h =
-      let l : value_length (drop at xs) ≤ length (drop at xs) - 4 = rw len-here (simp length-drop h) in
-      let raw : ◌≡◌ {A = Head} (head_of (drop at xs))
-      (record { whole = true; typ = get_or (drop at xs) 0 0; inst = get_or (drop at xs) 3 0 % 16; len = value_length (drop at xs); first = first_octet (drop at xs) })
-      = simp (le-leb _ _ four, le-leb _ _ l) in
-      sym (raw ∙ simp (get_or-drop, add-zero) (cc))
+  module _ (len : ℕ) (le : 4 ≤ length ys) (hl : len ≡ value_length ys) where
+    after-header : length (take (length ys - 4) (drop 4 ys)) ≡ length ys - 4
+    after-header = ap length (rest-is ys 4) ∙ simp length-drop
 
-  pub look-empty : a * 256 + b ≤ length xs - at - 4 → a * 256 + b ≡ 0
-      → Looked xs at (record { whole = true; typ = get_or xs at 0; inst = get_or xs (at + 3) 0 % 16; len = a * 256 + b; first = 0 })
-  look-empty h z = record { is = rw (eq-eqb _ _ z) at (whole_here h); lies = λ e. omega arith; inst = omega arith }
+    pub look-long : length (take (length ys - 4) (drop 4 ys)) < len → Looked xs at no_head
+    unfolding head_of
+    look-long h =
+        let l : length ys - 4 < value_length ys = rw (← hl, ← after-header) h in
+        none (simp (le-leb _ _ le, lt-leb _ _ l))
 
-  pub look-full : a * 256 + b ≤ length xs - at - 4 → (a * 256 + b ≡ 0 → ⊥)
-      → Looked xs at (record { whole = true; typ = get_or xs at 0; inst = get_or xs (at + 3) 0 % 16; len = a * 256 + b; first = get_or xs (at + 4) 0 })
-  look-full h z = record { is = rw (ne_eqb _ _ z) at (whole_here h); lies = λ e. omega arith; inst = omega arith }
+    module _ (fits : len ≤ length (take (length ys - 4) (drop 4 ys))) where
+      here : (first : ℕ) → first ≡ first_octet ys → Stands xs at (record { whole = true; typ = get_or ys 0 0; inst = get_or ys 3 0 % 16; len = len; first = first })
+      unfolding head_of
+      here first f =
+          let l : value_length ys ≤ length ys - 4 = rw (← hl, ← after-header) fits in
+          let n : length ys ≡ length xs - at = ap length e ∙ simp length-drop in
+          let raw : ◌≡◌ {A = Head} (head_of ys) (record { whole = true; typ = get_or ys 0 0; inst = get_or ys 3 0 % 16; len = value_length ys; first = first_octet ys })
+          = simp (le-leb _ _ le, le-leb _ _ l) in
+          record {
+            looked = record { is = rw (hl, f) (sym raw ∙ ap head_of e); lies = λ w. omega arith; inst = omega arith };
+            whole = refl;
+          }
+
+      pub look-empty : len ≡ 0 → Stands xs at (record { whole = true; typ = get_or ys 0 0; inst = get_or ys 3 0 % 16; len = len; first = 0 })
+      look-empty z = here 0 (rw (eq-eqb _ _ (sym hl ∙ z)))
+
+      pub look-full : (len ≡ 0 → ⊥)
+          → Stands xs at (record { whole = true; typ = get_or ys 0 0; inst = get_or ys 3 0 % 16; len = len; first = get_or (take (length ys - 4) (drop 4 ys)) 0 0 })
+      look-full z = here (get_or (take (length ys - 4) (drop 4 ys)) 0 0) (rw (rest-is ys 4, get_or-drop) (rw (ne_eqb (value_length ys) 0 (λ w. z (hl ∙ w)))))

@@ -3,3 +3,4 @@ pub mod Crowds
 pub mod Taking
 pub mod Lent
 pub mod Lacking
+pub mod Keys

@@ -16,6 +16,9 @@ use Rattle.rules.specs.declared.Head.{Head}
 use Rattle.taking.specs.Lacks.{fault}
 use Rattle.taking.specs.Held.{held, one, count, counted, short_of, put_numbers, put_row, Few, Took}
 use Rattle.taking.specs.declared.Counts.{Counts}
+use Rattle.taking.specs.declared.Inside.{Inside}
+use Rattle.taking.specs.Lent.{level_of, limited_of}
+use Rattle.std.specs.Prelude.{⊤, Option, None, MatchOption}
 
 more-kept : (b : Bool) (k n : ℕ) → k ≤ n → cond b (k + 1) k ≤ n + 1
 more-kept true k n h = omega arith
@@ -75,11 +78,11 @@ module _ (k v : ℕ) (m : List ℕ) (p at : ℕ) (h : Element) (c : Counts) (row
   unfolding standing
   stand-listed e = rw e
 
-  pub took_unlisted : (n : ℕ) (c' : Counts) (rows' : List ℕ) → n ≡ seek (listing book v) k h.typ h.inst → length (listing book v) ≤ n
+  pub took_unlisted : (c' : Counts) (rows' : List ℕ) → length (listing book v) ≤ seek (listing book v) k h.typ h.inst
       → rows' ≡ put_numbers rows c.rows p h.typ h.inst (at + 4) h.len 1 → c' ≡ counted c 1 c.short
-      → Took (record { counts = c'; inner = 0; limited = false }) m rows' k v m p at h (held c rows)
+      → Took None m (held c' rows') k v m p at h (held c rows)
   unfolding marked entered
-  took_unlisted n c' rows' e l hr hc =
+  took_unlisted c' rows' l hr hc =
       let off : is_listed book k v h ≡ false = le-ltb (seek (listing book v) k h.typ h.inst) (length (listing book v)) (omega arith) in
       let line : line_in book k v h ≡ empty_line = get_or-eq_default (listing book v) empty_line (omega arith) in
       let st : 1 ≡ standing book k v m h = stand_unlisted off in
@@ -88,6 +91,7 @@ module _ (k v : ℕ) (m : List ℕ) (p at : ℕ) (h : Element) (c : Counts) (row
         marks = rw off;
         level = rw (← st);
         limits = rw (← st);
+        some = tt;
         few = few_now 1 c.short c' rows' st f hr hc;
       }
 
@@ -106,22 +110,23 @@ module _ (k v : ℕ) (m : List ℕ) (p at : ℕ) (h : Element) (c : Counts) (row
     unfolding marked
     marks_are = rw (on, hm, ← stands, e)
 
-    pub took-kept : (inside : ℕ) (limits : Bool) (c' : Counts) → st ≡ 0 → inside ≡ (get_or (listing book v) n empty_line).inside
-        → limits ≡ not (is_free (get_or (listing book v) n empty_line)) → c' ≡ counted c 0 c.short
-        → Took (record { counts = c'; inner = inside; limited = limits }) (set m n mk) rows' k v m p at h (held c rows)
+    pub took-kept : (enters : Option Inside) (c' : Counts) → st ≡ 0 → level_of enters ≡ (get_or (listing book v) n empty_line).inside
+        → limited_of enters ≡ not (is_free (get_or (listing book v) n empty_line)) → MatchOption enters ⊤ (λ i. 0 < i.level) → c' ≡ counted c 0 c.short
+        → Took enters (set m n mk) (held c' rows') k v m p at h (held c rows)
     unfolding entered
-    took-kept inside limits c' z hi hl hc =
+    took-kept enters c' z hi hl hs hc =
         let f : c.short ≡ short_of c.short (line_in book k v h).must st at h.typ h.inst = rw z (sym (none_short c.short (line_in book k v h).must at h.typ h.inst)) in
         let hc' : c' ≡ counted c st c.short = rw z hc in record {
           holds = holds st c.short c' rows' stands f hr hc';
           marks = marks_are;
           level = hi ∙ rw (← stands, z, e);
           limits = hl ∙ rw (← stands, z, e);
+          some = hs;
           few = few_now st c.short c' rows' stands f hr hc';
         }
 
     pub took-aside : (f : ℕ) (must : Bool) (c' : Counts) → (st ≡ 0 → ⊥) → must ≡ (get_or (listing book v) n empty_line).must → f ≡ short_of c.short must st at h.typ h.inst → c' ≡ counted c st f
-        → Took (record { counts = c'; inner = 0; limited = false }) (set m n mk) rows' k v m p at h (held c rows)
+        → Took None (set m n mk) (held c' rows') k v m p at h (held c rows)
     unfolding entered
     took-aside f must c' z h₁ hf hc =
         let f' : f ≡ short_of c.short (line_in book k v h).must st at h.typ h.inst = hf ∙ rw (h₁, e) in record {
@@ -129,5 +134,6 @@ module _ (k v : ℕ) (m : List ℕ) (p at : ℕ) (h : Element) (c : Counts) (row
           marks = marks_are;
           level = rw (← stands, ne_eqb st 0 z);
           limits = rw (← stands, ne_eqb st 0 z);
+          some = tt;
           few = few_now st f c' rows' stands f' hr hc;
         }

@@ -1,57 +1,36 @@
 // One element: its head, its row, its marks, and what is counted of it.
-ghost use Rattle.std.specs.Prelude.{◌≡◌, ◌+◌, ◌≤◌, ◌<◌, true, [], length};
-ghost use Rattle.rules.specs.Framing.{no_head};
+ghost use Rattle.std.specs.Prelude.{◌≡◌, ◌+◌, ◌≤◌, [], length};
 ghost use Rattle.rules.specs.Frames.{element, frames_of};
 ghost use Rattle.rules.specs.Standing.{is_short};
 ghost use Rattle.taking.specs.Lacks.{fault};
-ghost use Rattle.taking.specs.Held.{held, short_of, counted, put_numbers, Few, Looked, RowFits, Takes, Took};
+ghost use Rattle.taking.specs.Held.{short_of, put_numbers, Adds, Added, LookedAt, Takes, Tallied};
 
-use crate::{Counts, Taken, frames, line, wide};
+use crate::{Inside, Tally, frames, line};
 use rules::Head;
 
-fn no_head() -> Head
-    ensures { result ≡ no_head }
-{
-    Head {
-        whole: false,
-        typ: 0,
-        inst: 0,
-        len: 0,
-        first: 0,
-    }
-}
-
-// The element at `at`, if a whole one stands there.
-pub fn look(part: &[u8], at: usize) -> Head
+// The element at `at`, if a whole one stands there: its `whole` says so once more, as the rules' heads have it.
+pub fn look(part: &[u8], at: usize) -> Option<Head>
     requires { at ≤ length part.now }
-    ensures { Looked part.now at result }
+    ensures { LookedAt part.now at result }
 {
-    if part.len() - at < 4 {
-        return no_head();
+    let [typ, high, low, inst, value @ ..] = &part[at..] else {
+        return None;
+    };
+    let len = usize::from(u16::from_be_bytes([*high, *low]));
+    if value.len() < len {
+        return None;
     }
-    let len = wide(part[at + 1]) * 256 + wide(part[at + 2]);
-    if part.len() - at - 4 < len {
-        return no_head();
-    }
-    if len == 0 {
-        return Head {
-            whole: true,
-            typ: part[at],
-            inst: part[at + 3] % 16,
-            len,
-            first: 0,
-        };
-    }
-    Head {
+    Some(Head {
         whole: true,
-        typ: part[at],
-        inst: part[at + 3] % 16,
+        typ: *typ,
+        inst: *inst % 16,
         len,
-        first: part[at + 4],
-    }
+        first: if len == 0 { 0 } else { value[0] },
+    })
 }
 
 // Is the value below its least length?
+#[tactic(auto, using(facts::proofs::Facts::least_is), unfolding(rules::specs::Standing::is_short))]
 pub(crate) fn is_short(h: Head) -> bool
     ensures { result ≡ is_short (element h []) }
 {
@@ -59,13 +38,15 @@ pub(crate) fn is_short(h: Head) -> bool
 }
 
 // A place with a pair as one number, which grows with the place.
+#[tactic(auto, unfolding(crate::specs::Lacks::fault))]
 pub(crate) fn fault_at(place: usize, typ: u8, inst: u8) -> usize
     requires { place ≤ 4096 }
     ensures { result ≡ fault place typ inst }
 {
-    1 + place * 4096 + wide(typ) * 16 + wide(inst)
+    1 + place * 4096 + usize::from(typ) * 16 + usize::from(inst)
 }
 
+#[tactic(auto, unfolding(crate::specs::Held::short_of))]
 pub(crate) fn first_short(f: usize, must: bool, stand: u8, place: usize, typ: u8, inst: u8) -> usize
     requires { place ≤ 4096 }
     ensures { result ≡ short_of f must stand place typ inst }
@@ -73,28 +54,8 @@ pub(crate) fn first_short(f: usize, must: bool, stand: u8, place: usize, typ: u8
     standings::first_fault(f, must, stand, fault_at(place, typ, inst))
 }
 
-pub(crate) fn count_one(counts: Counts, stand: u8, short: usize) -> Counts
-    requires { Few counts 4096 }
-    ensures { result ≡ counted counts stand short }
-{
-    let rows = counts.rows + 1;
-    if stand == 0 {
-        return Counts {
-            rows,
-            kept: counts.kept + 1,
-            short,
-            gap: counts.gap,
-        };
-    }
-    Counts {
-        rows,
-        kept: counts.kept,
-        short,
-        gap: counts.gap,
-    }
-}
-
-// Six numbers at a row, if there is room for it.
+// Six numbers at a row, if there is room for it: one by one, as the contract names each, which those of an array would not be.
+#[tactic(auto, unfolding(crate::specs::Held::put_numbers))]
 pub fn put_row(
     rows: &mut [u16],
     row: usize,
@@ -119,79 +80,66 @@ pub fn put_row(
     }
 }
 
-// The row of an element.
-pub(crate) fn write_row(
-    rows: &mut [u16],
-    row: usize,
-    h: Head,
-    place: usize,
-    parent: usize,
-    stand: u8,
-)
-    requires { RowFits row place parent h.len }
-    ensures { rows.new ≡ put_numbers rows.old row parent h.typ h.inst (place + 4) h.len stand }
-{
-    let value = place + 4;
-    let len = h.len;
-    put_row(
-        rows,
-        row,
-        parent as u16,
-        h.typ as u16,
-        h.inst as u16,
-        value as u16,
-        len as u16,
-        stand as u16,
-    );
+impl<'a> Tally<'a> {
+    // The row of an element, which is counted; `short` is the first mandatory short one by now.
+    #[tactic(auto, unfolding(crate::specs::Held::counted))]
+    pub(crate) fn add(&mut self, h: Head, place: usize, parent: usize, stand: u8, short: usize)
+        requires { Adds self.old.counts place parent h.len }
+        ensures { Added self.old self.new h place parent stand short }
+    {
+        put_row(
+            self.rows,
+            self.counts.rows,
+            parent as u16,
+            u16::from(h.typ),
+            u16::from(h.inst),
+            (place + 4) as u16,
+            h.len as u16,
+            u16::from(stand),
+        );
+        self.counts.rows += 1;
+        self.counts.kept += usize::from(stand == 0);
+        self.counts.short = short;
+    }
 }
 
-// An element is judged and marked at its level, its row is written, and it is counted. A pair that is not listed touches no mark. Where the octets
-// of its value are still to come, the value is lent as empty, and no limit is passed yet.
+// An element is judged and marked at its level, its row is written, and it is counted; answers the inside to enter, if it is kept and a group. A pair
+// that is not listed touches no mark. Where the octets of its value are still to come, the value is lent as empty, and no limit is passed yet.
 pub fn take_one(
     kind: u32,
     level: u8,
-    lines: &[u32],
     h: Head,
     value: &[u8],
     place: usize,
     parent: usize,
     seen: &mut [u8; 32],
-    rows: &mut [u16],
-    counts: Counts,
-) -> Taken
-    requires { Takes kind level lines.now h (length value.now) place parent counts }
-    ensures { Took result seen.new rows.new kind level seen.old parent place
-        (element h (frames_of value.now)) (held counts rows.old) }
+    tally: &mut Tally,
+) -> Option<Inside>
+    requires { Takes kind level h (length value.now) place parent tally.old.counts }
+    ensures { Tallied result seen.new tally.new kind level seen.old parent place (element h (frames_of value.now)) tally.old }
 {
-    let typ = h.typ;
-    let inst = h.inst;
-    let n = line::find(kind, level, lines, typ, inst);
-    if lines.len() <= n {
-        write_row(rows, counts.rows, h, place, parent, 1);
-        return Taken {
-            counts: count_one(counts, 1, counts.short),
-            inner: 0,
-            limited: false,
-        };
-    }
+    let lines = line::of_level(level);
+    let Some(n) = line::find(kind, lines, h.typ, h.inst) else {
+        tally.add(h, place, parent, 1, tally.counts.short);
+        return None;
+    };
     let line = lines[n];
     let short = is_short(h);
     let over = frames::is_over(line, value);
-    let old = seen[n];
-    let stand = standings::listed_standing(line::many(line), old, short, over);
-    seen[n] = standings::mark_after(old, stand);
-    write_row(rows, counts.rows, h, place, parent, stand);
+    let stand = standings::listed_standing(line::many(line), seen[n], short, over);
+    seen[n] = standings::mark_after(seen[n], stand);
     if stand == 0 {
-        return Taken {
-            counts: count_one(counts, 0, counts.short),
-            inner: line::inside(line),
-            limited: line::limited(line),
-        };
+        tally.add(h, place, parent, 0, tally.counts.short);
+        return line::inside(line);
     }
-    let first = first_short(counts.short, line::must(line), stand, place, typ, inst);
-    Taken {
-        counts: count_one(counts, stand, first),
-        inner: 0,
-        limited: false,
-    }
+    let first = first_short(
+        tally.counts.short,
+        line::must(line),
+        stand,
+        place,
+        h.typ,
+        h.inst,
+    );
+    tally.add(h, place, parent, stand, first);
+    None
 }

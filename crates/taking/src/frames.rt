@@ -9,16 +9,10 @@ use crate::{element, line};
 pub fn apns(typ: u8, inst: u8) -> usize
     ensures { IsApn typ inst result }
 {
-    if typ != 71 {
-        return 0;
-    }
-    if inst != 0 {
-        return 0;
-    }
-    1
+    usize::from(typ == 71 && inst == 0)
 }
 
-// Do elements fill the value, and are more than ten of them APNs?
+// Do elements fill the value, and are more than ten of them APNs? Each element says where the next begins, so that this counts up by no step of its own.
 pub(crate) fn crowded(value: &[u8]) -> bool
     requires { length value.now ≤ 4096 }
     ensures { result ≡ crowd value.now }
@@ -26,10 +20,9 @@ pub(crate) fn crowded(value: &[u8]) -> bool
     let mut at = 0;
     let mut n = 0;
     while at < value.len() {
-        let h = element::look(value, at);
-        if !h.whole {
+        let Some(h) = element::look(value, at) else {
             return false;
-        }
+        };
         n += apns(h.typ, h.inst);
         at += 4 + h.len;
     }
@@ -41,8 +34,5 @@ pub(crate) fn is_over(line: u32, value: &[u8]) -> bool
     requires { length value.now ≤ 4096 }
     ensures { result ≡ limited_in line && crowd value.now }
 {
-    if !line::limited(line) {
-        return false;
-    }
-    crowded(value)
+    line::limited(line) && crowded(value)
 }

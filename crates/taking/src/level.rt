@@ -11,26 +11,21 @@ use crate::{Counts, element, line};
 pub(crate) fn line_lacks(kind: u32, line: u32, mark: u8) -> bool
     ensures { result ≡ must_in line && on_of_entry kind line && not (eqb mark 2) }
 {
-    if !line::must(line) {
-        return false;
-    }
-    if !line::on(kind, line) {
-        return false;
-    }
-    mark != 2
+    line::must(line) && line::on(kind, line) && mark != 2
 }
 
-// The first mandatory line of a level, in listing order, of which none was kept; `home` is the level's place. Lines between mandatory ones
-// are passed over.
-pub(crate) fn lacking(kind: u32, level: u8, lines: &[u32], seen: &[u8; 32], home: usize) -> usize
-    requires { Closes kind level lines.now home }
+// The first mandatory line of a level, in listing order, of which none was kept; `home` is the level's place. Each line says how many after it
+// are passed over, so that no `for` goes over them. 0 is none, as in the counts.
+pub(crate) fn lacking(kind: u32, level: u8, seen: &[u8; 32], home: usize) -> usize
+    requires { Closes kind level home }
     ensures { result ≡ lack_of book kind level seen.now home }
 {
+    let lines = line::of_level(level);
     let mut n = 0;
     while n < lines.len() {
         let line = lines[n];
         if line_lacks(kind, line, seen[n]) {
-            return element::fault_at(home, (line / 32 % 256) as u8, (line % 32) as u8);
+            return element::fault_at(home, line::type_of(line) as u8, line::inst_of(line) as u8);
         }
         n += 1 + line::skip(line);
     }
@@ -38,22 +33,13 @@ pub(crate) fn lacking(kind: u32, level: u8, lines: &[u32], seen: &[u8; 32], home
 }
 
 // The counts at the end of a level.
-pub fn close_level(
-    kind: u32,
-    level: u8,
-    lines: &[u32],
-    seen: &[u8; 32],
-    home: usize,
-    counts: Counts,
-) -> Counts
-    requires { Closes kind level lines.now home }
+#[tactic(auto, unfolding(crate::specs::Held::closed))]
+pub fn close_level(kind: u32, level: u8, seen: &[u8; 32], home: usize, counts: Counts) -> Counts
+    requires { Closes kind level home }
     ensures { result ≡ closed counts (lack_of book kind level seen.now home) }
 {
-    let gap = standings::lesser_of(counts.gap, lacking(kind, level, lines, seen, home));
     Counts {
-        rows: counts.rows,
-        kept: counts.kept,
-        short: counts.short,
-        gap,
+        gap: standings::lesser_of(counts.gap, lacking(kind, level, seen, home)),
+        ..counts
     }
 }

@@ -1,17 +1,34 @@
 // A level's lines, each a number: which of them lists a pair, and what a line says.
-ghost use Rattle.std.specs.Prelude.{◌≡◌};
-ghost use Rattle.rules.specs.Listings.{book, listing};
-ghost use Rattle.listings.specs.Data.{entries_of, key_of_entry, must_in, many_in, on_of_entry, skip_in, inside_in, limited_in, lists_in};
-ghost use Rattle.taking.specs.Lent.{AtLevel, Small, Seeks, Found};
+ghost use Rattle.std.specs.Prelude.{◌≡◌, ◌<◌, ◌/◌, ◌%◌, length};
+ghost use Rattle.std.specs.List.{position};
+ghost use Rattle.rules.specs.Listings.{any_instance, book, listing};
+ghost use Rattle.listings.specs.Data.{entries_of, key_of, must_in, many_in, on_of_entry, skip_in, limited_in, lists_in};
+ghost use Rattle.taking.specs.Lent.{Small, InnerIn};
+
+use crate::Inside;
 
 // The lines of a level.
-pub fn of_level<'a>(levels: &'a [u32], level: u8) -> &'a [u32]
-    requires { AtLevel levels.now level }
+pub fn of_level(level: u8) -> &'static [u32]
+    requires { level < length book.levels }
     ensures { result.now ≡ entries_of (listing book level) }
 {
-    let from = levels[level as usize] as usize;
-    let end = levels[level as usize + 1] as usize;
-    &levels[from..end]
+    let numbers = listings::numbers();
+    let level = usize::from(level);
+    let from = numbers[level] as usize;
+    let end = numbers[level + 1] as usize;
+    &numbers[from..end]
+}
+
+pub(crate) fn type_of(line: u32) -> u32
+    ensures { result ≡ line / 32 % 256 }
+{
+    line / 32 % 256
+}
+
+pub(crate) fn inst_of(line: u32) -> u32
+    ensures { result ≡ line % 32 }
+{
+    line % 32
 }
 
 pub(crate) fn must(line: u32) -> bool
@@ -26,19 +43,17 @@ pub(crate) fn many(line: u32) -> bool
     line / 16384 % 2 == 1
 }
 
+// Is it listed on this kind? A kind is a number, since C lends any.
+#[tactic(auto, unfolding(listings::specs::Data::on_of_entry))]
 pub(crate) fn on(kind: u32, line: u32) -> bool
     ensures { result ≡ on_of_entry kind line }
 {
-    if kind == 1 {
-        return line / 32768 % 2 == 1;
+    match kind {
+        1 => line / 32768 % 2 == 1,
+        2 => line / 65536 % 2 == 1,
+        3 => line / 131072 % 2 == 1,
+        _ => line / 262144 % 2 == 1,
     }
-    if kind == 2 {
-        return line / 65536 % 2 == 1;
-    }
-    if kind == 3 {
-        return line / 131072 % 2 == 1;
-    }
-    line / 262144 % 2 == 1
 }
 
 // How many lines after it are passed over in a search of the mandatory ones.
@@ -48,12 +63,6 @@ pub(crate) fn skip(line: u32) -> usize
     (line / 524288 % 32) as usize
 }
 
-pub(crate) fn inside(line: u32) -> u8
-    ensures { result ≡ inside_in line }
-{
-    (line / 16777216 % 128) as u8
-}
-
 // Has what its inside holds limits?
 pub(crate) fn limited(line: u32) -> bool
     ensures { result ≡ limited_in line }
@@ -61,33 +70,33 @@ pub(crate) fn limited(line: u32) -> bool
     line / 2147483648 % 2 == 1
 }
 
-// Does the line list, on this kind, the pair of the key `own`, or every instance by the key `any`?
-pub(crate) fn lists(kind: u32, own: u32, any: u32, line: u32) -> bool
-    ensures { result ≡ lists_in kind own any line }
+// The inside, if its pair is a group's.
+pub(crate) fn inside(line: u32) -> Option<Inside>
+    ensures { InnerIn line result }
 {
-    let key = line % 8192;
-    if key == own {
-        return on(kind, line);
+    match (line / 16777216 % 128) as u8 {
+        0 => None,
+        level => Some(Inside {
+            level,
+            limited: limited(line),
+        }),
     }
-    if key == any {
-        return on(kind, line);
-    }
-    false
 }
 
-// The first line of a level that lists the pair on this kind, or the number of lines.
-pub(crate) fn find(kind: u32, level: u8, lines: &[u32], typ: u8, inst: u8) -> usize
-    requires { Seeks kind level lines.now inst }
-    ensures { Found kind level typ inst result }
+// Does the line list the pair on this kind, by its own instance or by every one? Most lines are passed over by their type.
+#[tactic(auto, using(crate::proofs::Keys::lists_split))]
+pub(crate) fn lists(kind: u32, typ: u8, inst: u8, line: u32) -> bool
+    requires { inst < any_instance }
+    ensures { result ≡ lists_in kind (key_of typ inst) (key_of typ any_instance) line }
 {
-    let any = typ as u32 * 32 + 16;
-    let own = typ as u32 * 32 + inst as u32;
-    let mut n = 0;
-    while n < lines.len() {
-        if lists(kind, own, any, lines[n]) {
-            return n;
-        }
-        n += 1;
-    }
-    n
+    let listed = inst_of(line);
+    type_of(line) == u32::from(typ) && (listed == u32::from(inst) || listed == 16) && on(kind, line)
+}
+
+// The first line that lists the pair on this kind.
+pub(crate) fn find(kind: u32, lines: &[u32], typ: u8, inst: u8) -> Option<usize>
+    requires { inst < any_instance }
+    ensures { result ≡ position (λ x. lists_in kind (key_of typ inst) (key_of typ any_instance) x) lines.now }
+{
+    lines.iter().position(|&line| lists(kind, typ, inst, line))
 }

@@ -2,7 +2,7 @@
 ghost use Rattle.std.specs.Prelude.{◌≡◌};
 ghost use Rattle.wokdesk.specs.Names.{names};
 
-const NAMES: [u8; 8192] = *b"\
+static NAMES: [u8; 8192] = *b"\
     Reserved                        \
     IMSI                            \
     Cause                           \
@@ -261,9 +261,9 @@ const NAMES: [u8; 8192] = *b"\
     Private Extension               \
     ";
 
-// Laid down here, so that no other proof has its octets before it.
-pub(crate) fn names() -> [u8; 8192]
-    ensures { result ≡ names }
+// Proved here, so that no other proof has its octets before it.
+pub(crate) fn names() -> &'static [u8]
+    ensures { result.now ≡ names }
 {
-    NAMES
+    &NAMES
 }

@@ -1,4 +1,3 @@
-pub mod Twos
 pub mod Stores
 pub mod Calls
 pub mod Shapes

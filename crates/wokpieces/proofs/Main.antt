@@ -19,7 +19,7 @@ use Rattle.rules.specs.Verdicts.{accepted, refuses, judge_verdict, judge_table}
 use Rattle.rules.specs.declared.Verdict.{Verdict}
 use Rattle.rules.proofs.Rows.{Octets}
 use Rattle.rules.proofs.Numbers.{numbers-length}
-use Rattle.promises.proofs.Exports.{read-numbers}
+use Rattle.promises.proofs.Exports.{octets-length, read-numbers}
 use Rattle.pieces.specs.declared.Pieces.{Pieces}
 use Rattle.pieces.specs.declared.Told.{Told}
 use Rattle.pieces.specs.Feeding.{zeros, joined_parts}
@@ -37,11 +37,6 @@ use Rattle.wokpieces.specs.Runs.{Runs, begins, goes}
 use Rattle.wokpieces.proofs.Shapes.{Sane, sane-start, sane-part, sane-end, formed}
 
 -- ---- tables and states as octets
-
-octets-length : (xs : List ℕ) → length (octets_of xs) ≡ 2 * length xs
-unfolding octets_of
-octets-length [] = refl
-octets-length (x ∷ xs) = let e = octets-length xs in omega arith
 
 few-read : (xs : List ℕ) → length xs ≤ 1 → numbers_in xs ≡ []
 unfolding numbers_in
@@ -188,8 +183,8 @@ part_out {state} {part} {table} {five} e s = record {
   table_stays = s.table_left ∙ cond_no _ _ _ e;
 }
 
-end-out : {state table five state' table' five' : List ℕ} {code : ℕ} → takes_in state table ≡ false → EndedOctets state table five code state' table' five' → NotTaken state table five code state' table' five'
-end-out {state} {table} {five} e s = record {
+end_out : {state table five state' table' five' : List ℕ} {code : ℕ} → takes_in state table ≡ false → EndedOctets state table five code state' table' five' → NotTaken state table five code state' table' five'
+end_out {state} {table} {five} e s = record {
   code_is = s.answers ∙ ap (λ (v : Verdict). v.code) (cond_no _ _ _ e);
   five_is = s.five_left ∙ ap (λ (v : Verdict). five_laid v five) (cond_no _ _ _ e);
   state_stays = s.state_left ∙ cond_no _ _ _ e;
@@ -215,7 +210,7 @@ module _ {k : ℕ} {ps : List (List ℕ)} {state table : List ℕ} (r : Runs k p
     other-part s = part_out not-here s
 
     pub other-end : {five state' table' five' : List ℕ} {code : ℕ} → EndedOctets state other five code state' table' five' → NotTaken state other five code state' table' five'
-    other-end s = end-out not-here s
+    other-end s = end_out not-here s
 
   module _ {five state' table' five' : List ℕ} {code : ℕ} (s : EndedOctets state table five code state' table' five') where
     -- the end: the judge's verdict on the joined parts, and its table in one of zeros
@@ -254,7 +249,7 @@ module _ {k : ℕ} {ps : List (List ℕ)} {state table : List ℕ} (r : Runs k p
     over-part {part} {any} c = part_out (over any) c
 
     pub over-end : {any five₂ state'' table'' five₂' : List ℕ} {code₂ : ℕ} → EndedOctets state' any five₂ code₂ state'' table'' five₂' → NotTaken state' any five₂ code₂ state'' table'' five₂'
-    over-end {any} c = end-out (over any) c
+    over-end {any} c = end_out (over any) c
 
 -- ---- no contract allows two answers, or two of what is lent
 

@@ -1,11 +1,10 @@
 -- What the exports of the pieces form answer and leave, for every state, table and part that is lent. Assumes nothing.
-use Rattle.std.specs.Prelude.{◌≡◌, ℕ, ◌+◌, ◌*◌, ◌≤◌, Bool, true, false, cond, List, ◌++◌, ltb, leb, length, get_or, take, drop}
+use Rattle.std.specs.Prelude.{◌≡◌, ℕ, ◌*◌, ◌≤◌, Bool, true, false, cond, Option, Some, None, List, ◌++◌, ltb, length, take, drop}
 use Rattle.rules.specs.Sizes.{header_numbers}
 use Rattle.rules.specs.Table.{laid}
 use Rattle.rules.specs.Verdicts.{accepted}
 use Rattle.rules.specs.Octets.{octets_of, numbers_in, five_laid, table_room}
 use Rattle.rules.specs.declared.Verdict.{Verdict}
-use Rattle.octets.specs.Stored.{put2}
 use Rattle.pieces.specs.declared.Pieces.{Pieces}
 use Rattle.pieces.specs.Feeding.{zeros}
 use Rattle.pieces.specs.Coded.{feed_all_by}
@@ -53,27 +52,7 @@ pub record EndedOctets (state table five : List ℕ) (code : ℕ) (state' table'
 
 -- ---- the parts of the exports
 
--- a row's six numbers as octets at row n, if there is a row and room for it
-unfoldable pub row_stored : Bool → List ℕ → ℕ → List ℕ → List ℕ
-row_stored wrote rows n row =
-    cond wrote
-    (cond (leb (12 * n + 12) (length rows))
-    (put2 (put2 (put2 (put2 (put2 (put2 rows (12 * n) (get_or row 0 0)) (12 * n + 2) (get_or row 1 0)) (12 * n + 4) (get_or row 2 0)) (12 * n + 6) (get_or row 3 0)) (12 * n + 8) (get_or row 4 0)) (12 * n + 10) (get_or row 5 0))
-    rows)
-    rows
-
--- octets that held rows hold these numbers then, and are as many
-pub record Holds (rows rows' numbers : List ℕ) : Type 0 where
-  pub numbers_left : numbers_in rows' ≡ numbers
-  pub long : length rows' ≡ length rows
-
--- octets of a part are fed to rows that are lent as octets
-pub record FedOctets (p : Pieces) (part rows : List ℕ) (r : Pieces) (rows' : List ℕ) : Type 0 where
-  pub state : r ≡ (feed_all_by p part (numbers_in rows)).state
-  pub numbers : numbers_in rows' ≡ (feed_all_by p part (numbers_in rows)).rows
-  pub long : length rows' ≡ length rows
-
--- the same for a whole table: its rows stand after its header
+-- octets of a part are fed to a table that is lent as octets: its rows stand after its header
 pub record FedTable (p : Pieces) (part table : List ℕ) (r : Pieces) (table' : List ℕ) : Type 0 where
   pub state : r ≡ (feed_all_by p part (drop header_numbers (numbers_in table))).state
   pub numbers : numbers_in table' ≡ take header_numbers (numbers_in table) ++ (feed_all_by p part (drop header_numbers (numbers_in table))).rows
@@ -84,11 +63,14 @@ pub record Told (v : Verdict) (five : List ℕ) (code : ℕ) (five' : List ℕ) 
   pub answers : code ≡ v.code
   pub five_left : five' ≡ five_laid v five
 
--- is it taken? Then it is one that a start can have come to
-pub record Takes (state : List ℕ) (room : ℕ) (r : Bool) : Type 0 where
-  pub is : r ≡ cond (is_too_short state) false (takes (state_in state) room)
-  pub long : r ≡ true → state_size ≤ length state
-  pub fits : r ≡ true → FitsAll (state_in state)
+-- it is the state, if it is taken; and then it is one that a start can have come to
+abbrev pub takes_with : List ℕ → ℕ → Bool
+takes_with state room = cond (is_too_short state) false (takes (state_in state) room)
+
+pub record Takes (state : List ℕ) (room : ℕ) (r : Option Pieces) : Type 0 where
+  pub is : r ≡ cond (takes_with state room) (Some (state_in state)) None
+  pub long : takes_with state room ≡ true → state_size ≤ length state
+  pub fits : takes_with state room ≡ true → FitsAll (state_in state)
 
 -- the verdict at the end of a state that is taken, for a table of that length
 pub record Ending (p : Pieces) (v : Verdict) (table : List ℕ) : Type 0 where

@@ -24,10 +24,10 @@ called-octets {five = five} x f = record {
   five_left = f ∙ ap (λ (u : Verdict). five_laid u five) x.answers;
 }
 
-pub cleaned-octets : {k : ℕ} {m clean answer clean' answer' : List ℕ} {s : Sent} → Cleans k m clean s clean' → answer' ≡ answer_laid s.verdict s.length answer
-    → CleanedOctets k m clean answer s.verdict.code clean' answer'
-cleaned-octets {answer = answer} x f = record {
-  answers = ap (λ (u : Verdict). u.code) x.verdict_is;
+pub cleaned-octets : {k : ℕ} {m clean answer clean' answer' : List ℕ} {s : Sent} → Cleans k m clean s clean' → {code : ℕ} → code ≡ s.verdict.code → answer' ≡ answer_laid s.verdict s.length answer
+    → CleanedOctets k m clean answer code clean' answer'
+cleaned-octets {answer = answer} x e f = record {
+  answers = e ∙ ap (λ (u : Verdict). u.code) x.verdict_is;
   clean_left = x.out_left;
   answer_left = f ∙ rw (x.verdict_is, x.length_is);
 }
@@ -37,10 +37,10 @@ pub length_most : {k : ℕ} {m clean clean' : List ℕ} {s : Sent} → Cleans k 
 length_most {k} {m} {clean} x = omega (arith, x.length_is, clean-most book book-sound k m (length clean))
 
 module _ (table : List ℕ) {teid sequence : ℕ} {values room : List ℕ} {s : Sent} {room' : List ℕ} (x : Builds teid sequence (numbers_in table) values room s room') where
-  pub built-octets : {answer answer' : List ℕ} → answer' ≡ answer_laid s.verdict s.length answer
-      → BuiltOctets teid sequence table values room answer s.verdict.code room' answer'
-  built-octets {answer} f = record {
-    answers = ap (λ (u : Verdict). u.code) x.verdict_is;
+  pub built-octets : {code : ℕ} {answer answer' : List ℕ} → code ≡ s.verdict.code → answer' ≡ answer_laid s.verdict s.length answer
+      → BuiltOctets teid sequence table values room answer code room' answer'
+  built-octets {answer = answer} e f = record {
+    answers = e ∙ ap (λ (u : Verdict). u.code) x.verdict_is;
     room_left = x.room_left;
     answer_left = f ∙ rw (x.verdict_is, x.length_is);
   }
@@ -49,8 +49,9 @@ module _ (table : List ℕ) {teid sequence : ℕ} {values room : List ℕ} {s : 
   built-most = omega (arith, x.length_is, build-most book book-sound teid sequence (numbers_in table) values (length room))
 
 -- a count has 16 bits
-pub counted-octets : {k : ℕ} {m answer answer' : List ℕ} {s : Count} → Counted k m s → answer' ≡ answer_laid s.verdict s.rows answer → CountedOctets k m answer s.verdict.code answer'
-counted-octets x f = record { answers = ap (λ (u : Verdict). u.code) x.verdict_is; answer_left = f ∙ rw (x.verdict_is, x.rows_is) }
+pub counted-octets : {k : ℕ} {m answer answer' : List ℕ} {s : Count} → Counted k m s → {code : ℕ} → code ≡ s.verdict.code → answer' ≡ answer_laid s.verdict s.rows answer
+    → CountedOctets k m answer code answer'
+counted-octets x e f = record { answers = e ∙ ap (λ (u : Verdict). u.code) x.verdict_is; answer_left = f ∙ rw (x.verdict_is, x.rows_is) }
 
 pub count_most : {k : ℕ} {m : List ℕ} {s : Count} → Counted k m s → s.rows ≤ 65535
 count_most {k} {m} x = omega (arith, x.rows_is, rows_are book k m, few book k m)

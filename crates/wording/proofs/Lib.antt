@@ -1,3 +1,4 @@
 pub mod Puts
 pub mod Turns
+pub mod Sheets
 pub mod Decimals

@@ -2,14 +2,11 @@
 --     puts_append, then-puts   one text after another
 --     puts-start               from the start of a buffer: as much as fits, over what stood there
 use mathlib.Core.Path.{◌≡◌, refl, sym, ap, ◌∙◌}
-use mathlib.Core.Bool.{Bool, true, false, cond}
 use mathlib.Core.List.{List, [], ◌∷◌, ◌++◌}
-use Prim.Native.Nat.{ℕ, zero, suc, ◌+◌, ◌≤◌, ◌<◌}
+use Prim.Native.Nat.{ℕ, ◌+◌, ◌≤◌, ◌<◌}
 use native.Mathlib.Omega.{arith}
-use native.Mathlib.Numerals.{unary_clauses}
 use borrow.Author.Tests.{lt-ltb, le-ltb}
-use lib.Dec.{ltb}
-use lib.ListN.{length, take, drop, get_or, set, length-append, length-set}
+use lib.ListN.{length, take, set, length-append}
 use Rattle.rules.specs.Table.{laid}
 use Rattle.wording.specs.Puts.{Paper, put_one, puts, Puts}
 
@@ -20,19 +17,6 @@ puts_append (x ∷ a) c p = puts_append a c (put_one x p)
 
 pub then-puts : {a c : List ℕ} {at₀ at₁ at₂ : ℕ} {out₀ out₁ out₂ : List ℕ} → Puts a at₀ out₀ at₁ out₁ → Puts c at₁ out₁ at₂ out₂ → Puts (a ++ c) at₀ out₀ at₂ out₂
 then-puts {a} {c} {at₀} {out₀ = out₀} p q = record { done = puts_append a c (record { at = at₀; out = out₀ }) ∙ ap (puts c) p.done ∙ q.done }
-
--- no octet is put past the buffer
-pub puts-length : (t : List ℕ) (p : Paper) → length (puts t p).out ≡ length p.out
-unfolding puts put_one
-puts-length [] p = refl
-puts-length (x ∷ t) p = puts-length t (put_one x p) ∙ go (ltb p.at (length p.out))
-  where
-    go : (f : Bool) → length (cond f (record { at = p.at + 1; out = set p.out p.at x }) p).out ≡ length p.out
-    go true = length-set p.out p.at x
-    go false = refl
-
-pub same-room : {t : List ℕ} {at₀ at₁ : ℕ} {out₀ out₁ : List ℕ} → Puts t at₀ out₀ at₁ out₁ → length out₁ ≡ length out₀
-same-room {t} {at₀} {out₀ = out₀} p = sym (ap (λ (q : Paper). length q.out) p.done) ∙ puts-length t (record { at = at₀; out = out₀ })
 
 pub puts_none : (at₀ : ℕ) (out₀ : List ℕ) → Puts [] at₀ out₀ at₀ out₀
 unfolding puts
@@ -85,37 +69,3 @@ puts-start t out₀ = record { done = (puts-from t [] out₀).done ∙ paper (om
 -- what is put is determined
 pub puts-same : {t : List ℕ} {at₀ at₁ at₂ : ℕ} {out₀ out₁ out₂ : List ℕ} → Puts t at₀ out₀ at₁ out₁ → Puts t at₀ out₀ at₂ out₂ → (at₁ ≡ at₂) × (out₁ ≡ out₂)
 puts-same p q = (ap (λ (x : Paper). x.at) (sym p.done ∙ q.done), ap (λ (x : Paper). x.out) (sym p.done ∙ q.done))
-
--- ---- the loop of `copy`
-
-pub record Copying (text : List ℕ) (at₀ : ℕ) (out₀ : List ℕ) (to : ℕ) (out : List ℕ) (n : ℕ) : Type 0 where
-  pub left : puts (drop n text) (record { at = to; out = out }) ≡ puts text (record { at = at₀; out = out₀ })
-  pub within : n ≤ length text
-
-drop-next : (text : List ℕ) (n : ℕ) → n < length text → drop n text ≡ get_or text n 0 ∷ drop (n + 1) text
-drop-next [] n l = absurd (omega arith)
-drop-next (x ∷ text) zero l = refl
-drop-next (x ∷ text) (suc n) l = simp unary_clauses (simp unary_clauses at (drop-next text n (omega arith)))
-
-drop_all : (text : List ℕ) (n : ℕ) → length text ≤ n → drop n text ≡ []
-drop_all [] zero l = refl
-drop_all [] (suc n) l = refl
-drop_all (x ∷ text) zero l = absurd (omega arith)
-drop_all (x ∷ text) (suc n) l = drop_all text n (omega arith)
-
-pub copy_start : (text : List ℕ) (at₀ : ℕ) (out₀ : List ℕ) → Copying text at₀ out₀ at₀ out₀ 0
-copy_start text at₀ out₀ = record { left = refl; within = omega arith }
-
-pub copy-next : {text : List ℕ} {at₀ to n to' : ℕ} {out₀ out out' : List ℕ} → Copying text at₀ out₀ to out n → n < length text → Puts (get_or text n 0 ∷ []) to out to' out' → Copying text at₀ out₀ to' out' (n + 1)
-copy-next {text} {to = to} {n = n} {out = out} i l p = record {
-  left =
-      sym (ap (puts (drop (n + 1) text)) p.done)
-      ∙ sym (puts_append (get_or text n 0 ∷ []) (drop (n + 1) text) (record { at = to; out = out }))
-      ∙ ap (λ t. puts t (record { at = to; out = out })) (sym (drop-next text n l))
-      ∙ i.left;
-  within = omega arith;
-}
-
-pub copy-end : {text : List ℕ} {at₀ to n : ℕ} {out₀ out : List ℕ} → Copying text at₀ out₀ to out n → length text ≤ n → Puts text at₀ out₀ to out
-unfolding puts
-copy-end {text} {to = to} {n = n} {out = out} i l = record { done = sym i.left ∙ ap (λ t. puts t (record { at = to; out = out })) (drop_all text n l) }

@@ -1,51 +1,19 @@
 -- A loop that puts one text for each number of a run. Assumes nothing.
 --     turns-start, turns_next, turns-end, turns-all   the loop: what is left to put, put where it stands, is all put at the start
 --     turns-length                                    a bound for each text is one for all; then for columns and octets
-use mathlib.Core.Path.{◌≡◌, refl, sym, ap, subst, ◌∙◌}
-use mathlib.Core.List.{List, [], ◌∷◌, ◌++◌}
-use Prim.Native.Nat.{ℕ, zero, suc, ◌+◌, ◌-◌, ◌*◌, ◌≤◌, ◌<◌}
+use mathlib.Core.Path.{◌≡◌, refl, sym, ap, ◌∙◌}
+use mathlib.Core.List.{List, [], ◌∷◌, ◌++◌, append_assoc, append-nil}
+use Prim.Native.Nat.{ℕ, zero, suc, ◌+◌, ◌-◌, ◌*◌, ◌≤◌}
 use native.Mathlib.Omega.{arith}
 use lib.ListN.{length, get_or, length-append}
-use Rattle.wording.specs.Puts.{puts, Puts}
 use Rattle.wording.specs.Pieces.{for_each, gap, left_of_room, right_in, hex, hexes}
-use Rattle.wording.proofs.Puts.{puts_append}
 
-pub record Turning (f : ℕ → List ℕ) (from count at₀ : ℕ) (out₀ : List ℕ) (to : ℕ) (out : List ℕ) (n : ℕ) : Type 0 where
-  pub rest : puts (for_each f n (count - n)) (record { at = to; out = out }) ≡ puts (for_each f from (count - from)) (record { at = at₀; out = out₀ })
-  pub begun : from ≤ n
-
-pub turns-start : (f : ℕ → List ℕ) (from count at₀ : ℕ) (out₀ : List ℕ) → Turning f from count at₀ out₀ at₀ out₀ from
-turns-start f from count at₀ out₀ = record { rest = refl; begun = omega arith }
-
-one_more : (f : ℕ → List ℕ) (i d d' : ℕ) → d ≡ suc d' → for_each f i d ≡ f i ++ for_each f (i + 1) d'
+pub for_each-more : (f : ℕ → List ℕ) (i n : ℕ) → for_each f i (suc n) ≡ for_each f i n ++ f (i + n)
 unfolding for_each
-one_more f i d d' e = ap (for_each f i) e ∙ ap (λ j. f i ++ for_each f j d') (omega arith)
-
-pub turns_next : {f : ℕ → List ℕ} {from count at₀ to n to' : ℕ} {out₀ out out' : List ℕ} → Turning f from count at₀ out₀ to out n → n < count
-    → Puts (f n) to out to' out' → Turning f from count at₀ out₀ to' out' (n + 1)
-turns_next {f} {count = count} {to = to} {n = n} {out = out} i l p = record {
-  rest =
-      sym (ap (puts (for_each f (n + 1) (count - (n + 1)))) p.done)
-      ∙ sym (puts_append (f n) (for_each f (n + 1) (count - (n + 1))) (record { at = to; out = out }))
-      ∙ ap (λ t. puts t (record { at = to; out = out })) (sym (one_more f n (count - n) (count - (n + 1)) (omega arith)))
-      ∙ i.rest;
-  begun = omega arith;
-}
-
-none_more : (f : ℕ → List ℕ) (i d : ℕ) → d ≡ 0 → for_each f i d ≡ []
-unfolding for_each
-none_more f i d e = ap (for_each f i) e
-
-pub turns-end : {f : ℕ → List ℕ} {from count at₀ to n : ℕ} {out₀ out : List ℕ} → Turning f from count at₀ out₀ to out n → count ≤ n
-    → Puts (for_each f from (count - from)) at₀ out₀ to out
-unfolding puts
-turns-end {f} {count = count} {to = to} {n = n} {out = out} i l =
-    record { done = sym i.rest ∙ ap (λ t. puts t (record { at = to; out = out })) (none_more f n (count - n) (omega arith)) }
-
--- of a run from 0
-pub turns-all : {f : ℕ → List ℕ} {count at₀ to n : ℕ} {out₀ out : List ℕ} → Turning f 0 count at₀ out₀ to out n → count ≤ n → Puts (for_each f 0 count) at₀ out₀ to out
-turns-all {f} {count} {at₀} {to} {out₀ = out₀} {out = out} i l =
-    subst (λ c. Puts (for_each f 0 c) at₀ out₀ to out) (omega arith) (turns-end i l)
+for_each-more f i zero = append-nil (f i) ∙ ap f (omega arith)
+for_each-more f i (suc n) =
+    ap (f i ++◌) (for_each-more f (suc i) n ∙ ap (λ j. for_each f (suc i) n ++ f j) (omega arith))
+    ∙ sym (append_assoc (f i) (for_each f (suc i) n) (f (i + suc n)))
 
 pub turns-length : (f : ℕ → List ℕ) (most : ℕ) → ((i : ℕ) → length (f i) ≤ most) → (i n : ℕ) → length (for_each f i n) ≤ most * n
 unfolding for_each

@@ -1,2 +1,3 @@
 pub mod Puts
 pub mod Pieces
+pub mod Sheets

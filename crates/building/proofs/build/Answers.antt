@@ -1,25 +1,27 @@
 -- `build` reads kind and type off the table. Assumes nothing.
-use mathlib.Core.Path.{refl}
+use mathlib.Core.Path.{◌∙◌}
 use native.Mathlib.Omega.{arith}
-use Rattle.building.proofs.Builds.{no_header, by-header}
+use Rattle.std.proofs.lemmas.Result.{err_from_is_err_and}
+use Rattle.building.proofs.Builds.{no_header, by-header, refused-early, makes, builds}
 use Rattle.building.proofs.build.Goals as goal
 
-pub returns-then-table-lt6 : goal.returns-then-table-lt6
-returns-then-table-lt6 c =
-    no_header c.args.teid c.args.sequence c.args.table.now c.args.values.now c.args.room.now c.if-table-lt6.true _ c.refuse.ensures
+pub returns-then-len-lt6-clause-sent : goal.returns-then-len-lt6-clause-sent
+returns-then-len-lt6-clause-sent g c = no_header c.args.teid c.args.sequence (g.T.Numbers.numbers c.args.table) c.args.values.now c.args.room.now (omega (arith, c.len.ensures)) _ c.into.ensures
 
-pub bounds-table-5 : goal.bounds-table-5
-bounds-table-5 c = omega (arith, c.if-table-lt6.false)
+pub returns-in_err-header-clause-sent : goal.returns-in_err-header-clause-sent
+returns-in_err-header-clause-sent g c =
+    let p = err_from_is_err_and c.from_residual.result c.from_residual.ensures.1 in
+    rw p.1
+    (by-header c.args.teid c.args.sequence (g.T.Numbers.numbers c.args.table) c.args.values.now c.args.room.now (omega (arith, c.len.ensures)) (omega (arith, c.from-kind.ensures, c.at.ensures)) (omega (arith, c.from-typ.ensures, c.at-2.ensures))
+    (refused-early c.from-kind.result c.from-typ.result c.args.teid c.args.sequence (g.T.Numbers.numbers c.args.table) c.args.values.now c.args.room.now c.in_err-header.field-0.0 c.in_err-header.ensures p.0 p.2))
 
-pub overflow_cast-kind : goal.overflow_cast-kind
-overflow_cast-kind c = omega (arith, c.shared_slice_known-3-1.given 5)
+pub make-requires : goal.make-requires
+make-requires g c =
+    makes c.from-kind.result c.from-typ.result c.args.teid c.args.sequence (g.T.Numbers.numbers c.args.table) c.args.values.now c.args.room.now (g.T.Numbers.numbers c.after.result) c.from.result c.in_ok-header.ensures.0
+    (record { count_is = c.from.ensures ∙ c.at-3.ensures; rows_is = c.after.ensures })
 
-pub bounds-table-4 : goal.bounds-table-4
-bounds-table-4 c = omega (arith, c.if-table-lt6.false)
-
-pub overflow_cast-typ : goal.overflow_cast-typ
-overflow_cast-typ c = omega (arith, c.shared_slice_known-4-1.given 4)
-
-pub returns : goal.returns
-returns c =
-    by-header c.args.teid c.args.sequence c.args.table.now c.args.values.now c.args.room.now c.if-table-lt6.false refl refl c.build_by.ensures
+pub returns-clause-sent : goal.returns-clause-sent
+returns-clause-sent g c =
+    by-header c.args.teid c.args.sequence (g.T.Numbers.numbers c.args.table) c.args.values.now c.args.room.now (omega (arith, c.len.ensures)) (omega (arith, c.from-kind.ensures, c.at.ensures)) (omega (arith, c.from-typ.ensures, c.at-2.ensures))
+    (builds c.from-kind.result c.from-typ.result c.args.teid c.args.sequence (g.T.Numbers.numbers c.args.table) c.args.values.now c.args.room.now (g.T.Numbers.numbers c.after.result) c.from.result c.in_ok-header.ensures.0
+    (record { count_is = c.from.ensures ∙ c.at-3.ensures; rows_is = c.after.ensures }) c.in_ok-header.header c.in_ok-header.ensures.1 c.make.ensures.sent)

@@ -7,39 +7,33 @@ use Rattle.rules.proofs.Readings.{few}
 use Rattle.calling.proofs.Deciding.{by-lent, passed, copies, by-refusal, by-acceptance}
 use Rattle.calling.proofs.decide.Goals as goal
 
-pub lent_verdict-lent-requires : goal.lent_verdict-lent-requires
-lent_verdict-lent-requires c = rw c.read-r.ensures.answers (omega (arith, few book c.args.kind c.args.message.now))
+pub early-requires : goal.early-requires
+early-requires c = rw c.read-r.ensures.answers (omega (arith, few book c.args.kind c.args.message.now))
 
-pub returns-then-lent-ne0 : goal.returns-then-lent-ne0
-returns-then-lent-ne0 c =
-    rw c.turn.ensures (by-lent c.args.kind c.args.message.now c.read-r.ensures c.args.room c.args.copy.now c.lent_verdict-lent.result c.lent_verdict-lent.ensures c.if-lent-ne0.true)
+pub returns-in-Err : goal.returns-in-Err
+returns-in-Err c =
+    rw c.turn.ensures (by-lent _ _ c.read-r.ensures c.args.room c.args.copy.now c.in-Err.ensures.value c.in-Err.ensures.refuses)
 
 pub copy_out-requires : goal.copy_out-requires
-copy_out-requires c =
-    let v = c.lent_verdict-lent in (
-      rw c.read-r.ensures.answers (omega (arith, few book c.args.kind c.args.message.now)),
-      copies c.args.kind c.args.message.now c.read-r.ensures c.args.room c.args.copy.now v.result v.ensures c.if-lent-ne0.false
-          (λ j. omega (arith, c.shared_slice_known-1.given j)) (omega arith),
-    )
+copy_out-requires c = (
+  rw c.read-r.ensures.answers (omega (arith, few book c.args.kind c.args.message.now)),
+  copies _ _ c.read-r.ensures c.args.room c.args.copy.now c.in_default.ensures.refuses (λ j. omega (arith, c.type_inv.message j)) (omega arith),
+)
 
-pub returns-then-v-ne0 : goal.returns-then-v-ne0
-returns-then-v-ne0 c =
-    let v = c.lent_verdict-lent in
-    rw c.turn-then-v-ne0.ensures (by-refusal c.args.kind c.args.message.now c.read-r.ensures c.args.room c.args.copy.now v.result v.ensures c.if-lent-ne0.false
-    (λ j. omega (arith, c.shared_slice_known-1.given j)) (omega (arith, c.rows-1)) c.first_of-v.result c.first_of-v.ensures _ c.copy_out.ensures c.if-v-ne0.true)
+pub returns-in-Err-late : goal.returns-in-Err-late
+returns-in-Err-late c =
+    rw c.turn-in-Err-late.ensures (by-refusal _ _ c.read-r.ensures c.args.room c.args.copy.now c.in_default.ensures.refuses
+    (λ j. omega (arith, c.type_inv.message j)) (omega arith) _ c.in-Err-late.ensures.value _ c.copy_out.ensures c.in-Err-late.ensures.refuses)
 
 pub bounds-message-1 : goal.bounds-message-1
 bounds-message-1 c =
-    let v = c.lent_verdict-lent in
-    omega (arith, (passed c.args.kind c.args.message.now c.read-r.ensures c.args.room c.args.copy.now v.result v.ensures c.if-lent-ne0.false).has_header, header-least c.args.message.now)
+    omega (arith, (passed _ _ c.read-r.ensures c.args.room c.args.copy.now c.in_default.ensures.refuses).has_header, header-least c.args.message.now)
 
-pub overflow_cast-result-2 : goal.overflow_cast-result-2
-overflow_cast-result-2 c =
-    let v = c.lent_verdict-lent in
-    omega (arith, kind-low c.args.kind (passed c.args.kind c.args.message.now c.read-r.ensures c.args.room c.args.copy.now v.result v.ensures c.if-lent-ne0.false).kind)
+pub overflow_cast-result : goal.overflow_cast-result
+overflow_cast-result c =
+    omega (arith, kind-low c.args.kind (passed _ _ c.read-r.ensures c.args.room c.args.copy.now c.in_default.ensures.refuses).kind)
 
 pub returns : goal.returns
 returns c =
-    let v = c.lent_verdict-lent in
-    by-acceptance c.args.kind c.args.message.now c.read-r.ensures c.args.room c.args.copy.now v.result v.ensures c.if-lent-ne0.false
-    (λ j. omega (arith, c.shared_slice_known-1.given j)) (omega (arith, c.rows-1)) c.first_of-v.result c.first_of-v.ensures _ c.copy_out.ensures c.if-v-ne0.false
+    rw (c.turn-2.ensures, c.accept.ensures, c.from.ensures) (by-acceptance _ _ c.read-r.ensures c.args.room c.args.copy.now c.in_default.ensures.refuses
+    (λ j. omega (arith, c.type_inv.message j)) (omega arith) _ c.in_default-late.ensures.value _ c.copy_out.ensures c.in_default-late.ensures.refuses)

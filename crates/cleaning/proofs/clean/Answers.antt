@@ -5,8 +5,8 @@ use Rattle.cleaning.proofs.clean.Goals as goal
 
 pub settle-requires : goal.settle-requires
 settle-requires c =
-    settles c.args.kind c.args.message.now c.read-r.ensures (λ j. omega (arith, c.shared_slice_known-1.given j)) (omega (arith, c.if-r-gt64.false, c.small-few.ensures))
+    settles c.args.kind c.args.message.now c.read-r.ensures (λ j. omega (arith, c.type_inv.message j)) (omega (arith, c.if-r-gt64.false))
 
-pub returns : goal.returns
-returns c =
-    cleans c.args.kind c.args.message.now c.read-r.ensures (λ j. omega (arith, c.shared_slice_known-1.given j)) (omega (arith, c.if-r-gt64.false, c.small-few.ensures)) c.args.out.now c.settle.ensures
+pub returns-clause-sent : goal.returns-clause-sent
+returns-clause-sent c =
+    cleans c.args.kind c.args.message.now c.read-r.ensures (λ j. omega (arith, c.type_inv.message j)) (omega (arith, c.if-r-gt64.false)) c.args.out.now c.settle.ensures.sent

@@ -6,9 +6,9 @@ use Rattle.cleaning.proofs.clean_all.Goals as goal
 pub settle-requires : goal.settle-requires
 settle-requires c =
     let r = c.read-r.ensures in
-    settles c.args.kind c.args.message.now r (λ j. omega (arith, c.shared_slice_known-1.given j)) (omega (arith, most-rows c.args.kind c.args.message.now r, c.large-all.ensures))
+    settles c.args.kind c.args.message.now r (λ j. omega (arith, c.type_inv.message j)) (omega (arith, most-rows c.args.kind c.args.message.now r))
 
-pub returns : goal.returns
-returns c =
+pub returns-clause-sent : goal.returns-clause-sent
+returns-clause-sent c =
     let r = c.read-r.ensures in
-    cleans c.args.kind c.args.message.now r (λ j. omega (arith, c.shared_slice_known-1.given j)) (omega (arith, most-rows c.args.kind c.args.message.now r, c.large-all.ensures)) c.args.out.now c.settle.ensures
+    cleans c.args.kind c.args.message.now r (λ j. omega (arith, c.type_inv.message j)) (omega (arith, most-rows c.args.kind c.args.message.now r)) c.args.out.now c.settle.ensures.sent

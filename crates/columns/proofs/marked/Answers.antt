@@ -3,10 +3,10 @@ use borrow.Author.Tests.{eq-eqb, ne_eqb}
 use Rattle.columns.specs.Rows.{marked}
 use Rattle.columns.proofs.marked.Goals as goal
 
-pub returns-then-wide : goal.returns-then-wide
+pub returns-then-from : goal.returns-then-from
 unfolding marked
-returns-then-wide c = rw (← c.wide.ensures.is, ← c.wide-2.ensures.is, eq-eqb _ _ c.if-wide.true)
+returns-then-from c = rw (← c.from.ensures, ← c.from-2.ensures, eq-eqb _ _ c.if-from.true)
 
-pub returns : goal.returns
+pub returns-else-from : goal.returns-else-from
 unfolding marked
-returns c = rw (← c.wide.ensures.is, ← c.wide-2.ensures.is, ne_eqb _ _ c.if-wide.false)
+returns-else-from c = rw (← c.from.ensures, ← c.from-2.ensures, ne_eqb _ _ c.if-from.false)

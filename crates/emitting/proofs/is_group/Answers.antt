@@ -5,8 +5,8 @@ use Rattle.facts.proofs.Facts.{group-is}
 use Rattle.facts.proofs.Groups.{no_group}
 use Rattle.emitting.proofs.is_group.Goals as goal
 
-pub returns-then-typ-gt255 : goal.returns-then-typ-gt255
-returns-then-typ-gt255 c = sym (no_group _ c.if-typ-gt255.true)
+pub returns-in-Ok : goal.returns-in-Ok
+returns-in-Ok c = c.group.ensures ∙ rw (c.table.ensures, c.in-Ok.ensures.1) (group-is _ c.in-Ok.ensures.0)
 
-pub returns : goal.returns
-returns c = c.group.ensures ∙ rw c.requires (group-is _ (omega arith))
+pub returns-in-Err : goal.returns-in-Err
+returns-in-Err c = sym (no_group _ (omega (arith, c.in-Err.ensures)))

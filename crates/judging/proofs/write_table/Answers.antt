@@ -3,4 +3,4 @@ use Rattle.judging.proofs.Writing.{written}
 use Rattle.judging.proofs.write_table.Goals as goal
 
 pub returns : goal.returns
-returns c = written c.requires c.write_header.ensures c.copy_rows.ensures
+returns c = written c.args.n c.args.kept c.args.typ c.args.kind _ _ c.requires c.write_header.ensures c.copy_from_slice.ensures.after

@@ -1,4 +1,4 @@
--- `desk` meets its contract: it counts the table's rows for that message on that kind. Assumes nothing.
+-- `desk` counts the table's rows for that message on that kind. Assumes nothing.
 use lib.ListN.{length}
 use Rattle.lookup.proofs.Tables.{rows_in}
 use Rattle.lookup.proofs.Spans.{own-desk}

@@ -1,10 +1,7 @@
--- `seek_plain` meets its contract. The invariant: nothing is found yet and the rows left decide, or the first is found and none is left. Assumes nothing.
-use Prim.Native.Nat.{◌-◌}
-use Rattle.lookup.proofs.Seeking.{Searching}
+-- `seek_plain` goes by the rows: what the rows left say is what all say. Assumes nothing.
+use Rattle.std.proofs.Common.{◌≡◌, ◌-◌}
+use Rattle.rules.specs.Values.{seek_plain}
 use Rattle.lookup.proofs.seek_plain.Given as goal
 
 abbrev pub invariant-loop-row : goal.invariant-loop-row
-invariant-loop-row l = Searching l.table l.typ l.inst l.count l.found l.row
-
-abbrev pub decreases-loop-row : goal.decreases-loop-row
-decreases-loop-row l = l.count - l.row
+invariant-loop-row l = seek_plain l.table l.typ l.inst 0 l.count ≡ seek_plain l.table l.typ l.inst l.row (l.count - l.row)

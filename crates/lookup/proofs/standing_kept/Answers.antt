@@ -1,25 +1,16 @@
--- `standing_kept` meets its contract. The invariant: what is counted, and what the rows left will add, make the whole. Assumes nothing.
-use native.Mathlib.Omega.{arith}
-use Rattle.lookup.proofs.Tables.{count-begins, count-goes, count-ends}
+-- `standing_kept` goes by the rows: what is counted, and what the rows left will add, make the whole. Assumes nothing.
+use mathlib.Core.Path.{sym, ◌∙◌}
+use Rattle.lookup.proofs.Tables.{counted, passed, count_ends}
 use Rattle.lookup.proofs.standing_kept.Goals as goal
-
-pub loop-row-init : goal.loop-row-init
-loop-row-init c = count-begins _ _
-
-pub number-stand-requires : goal.number-stand-requires
-number-stand-requires c = record { row_there = c.requires _ c.loop-row-test.true; of_row = omega arith }
-
-pub overflow_add-more : goal.overflow_add-more
-overflow_add-more c = omega (arith, c.loop-row.invariant.few)
-
-pub overflow_add-row : goal.overflow_add-row
-overflow_add-row c = omega arith
-
-pub loop-row-smaller : goal.loop-row-smaller
-loop-row-smaller c = omega arith
+use Rattle.lookup.proofs.standing_kept.Goals.{then-number-eq0, else-number-eq0}
 
 pub loop-row-preserved : goal.loop-row-preserved
-loop-row-preserved c = count-goes _ _ c.loop-row.invariant c.loop-row-test.true (rw c.number-stand.ensures.is at c.pick-kept.ensures)
+loop-row-preserved c =
+    let i = c.loop-row.invariant in
+    elim c.if-number-eq0.branch [
+      | then-number-eq0 w ↦ rw w.kept-is (counted _ _ i c.loop-row-test.true (sym c.number.ensures ∙ w.if-number-eq0.true))
+      | else-number-eq0 w ↦ rw w.kept-is (passed _ _ i c.loop-row-test.true (λ e. w.if-number-eq0.false (c.number.ensures ∙ e)))
+    ]
 
 pub returns : goal.returns
-returns c = count-ends _ _ c.loop-row.invariant c.loop-row-test.false
+returns c = count_ends _ _ c.loop-row.invariant c.loop-row-test.false

@@ -6,14 +6,6 @@ use Rattle.masking.proofs.clear_inside.Goals as goal
 pub loop-at-init : goal.loop-at-init
 loop-at-init c = empty-begins c.args.message.now c.args.place c.args.end c.args.copy.now c.requires
 
-pub overflow_add-value : goal.overflow_add-value
-overflow_add-value c =
-    omega (arith, four-left c.loop-at.invariant c.loop-at-test.true c.requires.ends, c.requires.ends, c.requires.few)
-
-pub overflow_add-at : goal.overflow_add-at
-overflow_add-at c =
-    omega (arith, four-left c.loop-at.invariant c.loop-at-test.true c.requires.ends, c.requires.ends, c.requires.few)
-
 pub two-len-requires : goal.two-len-requires
 two-len-requires c =
     omega (arith, four-left c.loop-at.invariant c.loop-at-test.true c.requires.ends, c.requires.ends)
@@ -23,20 +15,9 @@ clear_value-requires c =
     let f = fits c.loop-at.invariant c.loop-at-test.true c.requires.ends c.two-len.result c.two-len.ensures in
     (omega arith, omega (arith, f, c.requires.within, c.loop-at.invariant.long))
 
-pub overflow_add-at-in-loop-at : goal.overflow_add-at-in-loop-at
-overflow_add-at-in-loop-at c =
-    omega (arith, fits c.loop-at.invariant c.loop-at-test.true c.requires.ends c.two-len.result c.two-len.ensures, c.requires.ends, c.requires.few)
-
-pub loop-at-smaller : goal.loop-at-smaller
-loop-at-smaller c =
-    omega (arith, fits c.loop-at.invariant c.loop-at-test.true c.requires.ends c.two-len.result c.two-len.ensures, c.loop-at-test.true)
-
 pub loop-at-preserved : goal.loop-at-preserved
 loop-at-preserved c =
     again c.loop-at.invariant c.loop-at-test.true c.requires.ends c.two-len.result c.two-len.ensures _ (omega arith) c.clear_value.ensures
-
-pub shape_of-copy : goal.shape_of-copy
-shape_of-copy c = c.loop-at.invariant.long
 
 pub returns : goal.returns
 returns c = empty-ends c.loop-at.invariant c.loop-at-test.false

@@ -7,17 +7,17 @@ use Rattle.masking.proofs.clear_row.Goals as goal
 
 pub clear_value-requires : goal.clear_value-requires
 clear_value-requires c =
-    (rw (open_by _ _ _ c.requires.1.typ c.requires.0 c.open_octets-shown.ensures) (open_most _ _ _), c.requires.1.ends)
-
-pub returns-then-stand-ne4 : goal.returns-then-stand-ne4
-returns-then-stand-ne4 c =
-    row_open c.args.rows.now c.args.message.now c.args.n c.args.copy.now _ c.open_octets-shown.result
-    (open_by _ _ _ c.requires.1.typ c.requires.0 c.open_octets-shown.ensures) c.clear_value.ensures c.if-stand-ne4.true
+    (rw (open_by _ _ _ c.requires.typ c.table.ensures c.open_octets-shown.ensures) (open_most _ _ _), rw (c.from-place.ensures, c.from-len.ensures) c.requires.ends)
 
 pub clear_inside-requires : goal.clear_inside-requires
-clear_inside-requires c = row_inside c.requires.1 c.if-stand-ne4.false _ (omega arith)
+clear_inside-requires c = row_inside c.requires c.from-place.ensures c.from-len.ensures c.if-stand-eq-VOID.true _ (omega arith)
 
-pub returns : goal.returns
-returns c =
-    row-void c.args.rows.now c.args.message.now c.args.n c.args.copy.now _ c.open_octets-shown.result
-    (open_by _ _ _ c.requires.1.typ c.requires.0 c.open_octets-shown.ensures) c.clear_value.ensures c.if-stand-ne4.false _ c.clear_inside.ensures
+pub returns-then-stand-eq-VOID : goal.returns-then-stand-eq-VOID
+returns-then-stand-eq-VOID c =
+    row-void _ _ _ _ _ c.from-place.ensures c.from-len.ensures (open_by _ _ _ c.requires.typ c.table.ensures c.open_octets-shown.ensures) c.clear_value.ensures
+    c.if-stand-eq-VOID.true _ c.clear_inside.ensures
+
+pub returns-else-stand-eq-VOID : goal.returns-else-stand-eq-VOID
+returns-else-stand-eq-VOID c =
+    row_open _ _ _ _ _ c.from-place.ensures c.from-len.ensures (open_by _ _ _ c.requires.typ c.table.ensures c.open_octets-shown.ensures) c.clear_value.ensures
+    c.if-stand-eq-VOID.false

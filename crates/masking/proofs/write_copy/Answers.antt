@@ -7,7 +7,7 @@ use Rattle.masking.proofs.Clearing.{within_same}
 use Rattle.masking.proofs.write_copy.Goals as goal
 
 pub clear_rows-requires : goal.clear_rows-requires
-clear_rows-requires c = (c.table-types.ensures, within_same c.requires.within (omega arith))
+clear_rows-requires c = within_same c.requires.within (omega arith)
 
 pub returns : goal.returns
 returns c =

@@ -1,5 +1,5 @@
 -- `fill` puts what each read gives behind what it has. Assumes nothing.
-use Rattle.std.proofs.Common.{◌≡◌, ◌≤◌, ◌-◌, length, arith, ℕ, ◌∙◌, length-drop}
+use Rattle.std.proofs.Common.{◌≡◌, ◌-◌, length, arith, ℕ, ◌∙◌, length-drop}
 use Rattle.std.proofs.lemmas.List.{length-take}
 use borrow.Rule.Slice.PartMut.{same_len_mid, put_mid}
 use Rattle.output.proofs.Filling.{further}

@@ -7,6 +7,6 @@ pub returns-then-v-lt5 : goal.returns-then-v-lt5
 unfolding title_number
 returns-then-v-lt5 c = rw (lt-ltb _ _ c.if-v-lt5.true)
 
-pub returns : goal.returns
+pub returns-else-v-lt5 : goal.returns-else-v-lt5
 unfolding title_number
-returns c = rw (le-ltb _ _ c.if-v-lt5.false)
+returns-else-v-lt5 c = rw (le-ltb _ _ c.if-v-lt5.false)

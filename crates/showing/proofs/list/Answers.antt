@@ -1,4 +1,5 @@
 -- `list` writes the header before the rows. Assumes nothing.
+use mathlib.Core.Path.{◌∙◌}
 use Rattle.showing.proofs.Listing.{headed, listed}
 use Rattle.showing.proofs.list.Goals as goal
 
@@ -8,4 +9,4 @@ write_header-requires c =
 
 pub returns : goal.returns
 returns c =
-    listed c.args.table.now c.requires.0 c.args.kind c.args.message.now c.decide-d.ensures c.requires.1 c.octet_at-typ.ensures c.narrow-k.ensures c.write_header.ensures
+    listed c.args.table.now c.requires.0 c.args.kind c.args.message.now c.decide-d.ensures c.requires.1 (c.from-typ.ensures ∙ c.get_or.ensures) c.narrow-k.ensures c.write_header.ensures

@@ -4,4 +4,4 @@ use Rattle.titles.proofs.has_teid.Goals as goal
 
 pub returns : goal.returns
 unfolding flag_t
-returns c = rw (← c.octet_at.ensures)
+returns c = rw (← c.octet.ensures)

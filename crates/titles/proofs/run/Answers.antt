@@ -5,4 +5,4 @@ use Rattle.titles.proofs.run.Goals as goal
 
 pub returns : goal.returns
 unfolding top_run message_type
-returns c = rw (← c.narrow.ensures, ← c.narrow-2.ensures, ← c.octet_at.ensures, ← c.number_at.ensures, ← c.number_at-2.ensures)
+returns c = rw (← c.narrow.ensures, ← c.narrow-2.ensures, ← c.octet.ensures, ← c.from.ensures, ← c.get_or.ensures, ← c.get_or-2.ensures)

@@ -1,18 +1,19 @@
 -- `digits` goes by the powers of ten. Assumes nothing.
+use native.Mathlib.Omega.{arith}
 use Rattle.wording.proofs.Decimals.{one-digit, two_digits, three-digits, four-digits, five-digits}
 use Rattle.wording.proofs.digits.Goals as goal
 
-pub returns-then-n-lt10 : goal.returns-then-n-lt10
-returns-then-n-lt10 c = one-digit _ c.if-n-lt10.true
+pub returns-in-0-to-9 : goal.returns-in-0-to-9
+returns-in-0-to-9 c = one-digit _ (omega arith)
 
-pub returns-then-n-lt100 : goal.returns-then-n-lt100
-returns-then-n-lt100 c = two_digits _ c.if-n-lt10.false c.if-n-lt100.true
+pub returns-in-10-to-99 : goal.returns-in-10-to-99
+returns-in-10-to-99 c = two_digits _ (omega arith) (omega arith)
 
-pub returns-then-n-lt1000 : goal.returns-then-n-lt1000
-returns-then-n-lt1000 c = three-digits _ c.if-n-lt100.false c.if-n-lt1000.true
+pub returns-in-100-to-999 : goal.returns-in-100-to-999
+returns-in-100-to-999 c = three-digits _ (omega arith) (omega arith)
 
-pub returns-then-n-lt10000 : goal.returns-then-n-lt10000
-returns-then-n-lt10000 c = four-digits _ c.if-n-lt1000.false c.if-n-lt10000.true
+pub returns-in-1000-to-9999 : goal.returns-in-1000-to-9999
+returns-in-1000-to-9999 c = four-digits _ (omega arith) (omega arith)
 
-pub returns : goal.returns
-returns c = five-digits _ c.if-n-lt10000.false
+pub returns-in_default : goal.returns-in_default
+returns-in_default c = five-digits _ (omega arith)

@@ -1,12 +1,13 @@
 -- `hex_digit` by whether it is a decimal digit. Assumes nothing.
+use native.Mathlib.Omega.{arith}
 use borrow.Author.Tests.{lt-ltb, le-ltb}
 use Rattle.wording.specs.Pieces.{hex_digit}
 use Rattle.wording.proofs.hex_digit.Goals as goal
 
-pub returns-then-x-lt10 : goal.returns-then-x-lt10
+pub returns-in-0-to-9 : goal.returns-in-0-to-9
 unfolding hex_digit
-returns-then-x-lt10 c = rw (lt-ltb _ _ c.if-x-lt10.true)
+returns-in-0-to-9 c = rw (lt-ltb c.args.x 10 (omega arith))
 
-pub returns : goal.returns
+pub returns-in_default : goal.returns-in_default
 unfolding hex_digit
-returns c = rw (le-ltb _ _ c.if-x-lt10.false)
+returns-in_default c = rw (le-ltb c.args.x 10 (omega arith))

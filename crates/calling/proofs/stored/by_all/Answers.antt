@@ -6,4 +6,4 @@ use Rattle.calling.proofs.stored.by_all.Goals as goal
 pub returns : goal.returns
 returns c =
     let d = c.decide-d.ensures in
-    stored_as c.args.kind c.args.message.now c.args.table.now d (omega (arith, most-rows c.args.kind c.args.message.now d, c.large-all.ensures)) c.store.ensures
+    stored_as c.args.kind c.args.message.now c.args.table.now d (omega (arith, most-rows c.args.kind c.args.message.now d)) c.store.ensures

@@ -5,9 +5,7 @@ use Rattle.calling.proofs.stored.by_few.Goals as goal
 
 pub returns-then-d-gt64 : goal.returns-then-d-gt64
 returns-then-d-gt64 c =
-    let d = c.decide-d.ensures in
-    rw (small-left c.args.kind c.args.message.now d (omega (arith, c.if-d-gt64.true, c.small-few.ensures))) at c.by_all-then-d-gt64.ensures
+    rw (small-left c.args.kind c.args.message.now c.decide-d.ensures (omega arith)) at c.by_all-then-d-gt64.ensures
 
 pub returns : goal.returns
-returns c =
-    stored_as c.args.kind c.args.message.now c.args.table.now c.decide-d.ensures (omega (arith, c.if-d-gt64.false, c.small-few.ensures)) c.store.ensures
+returns c = stored_as c.args.kind c.args.message.now c.args.table.now c.decide-d.ensures (omega arith) c.store.ensures

@@ -7,6 +7,6 @@ pub returns-then-right : goal.returns-then-right
 unfolding seen_octets
 returns-then-right c = rw c.if-right.true
 
-pub returns : goal.returns
+pub returns-else-right : goal.returns-else-right
 unfolding seen_octets
-returns c = rw c.if-right.false (open_by c.args.typ c.args.stand c.args.len c.table-types.ensures c.type_octet.ensures c.open_octets.ensures)
+returns-else-right c = rw c.if-right.false (open_by c.args.typ c.args.stand c.args.len c.table.ensures c.type_octet.ensures c.open_octets.ensures)

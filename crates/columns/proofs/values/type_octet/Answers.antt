@@ -1,12 +1,7 @@
 -- `type_octet` by whether it fits. Assumes nothing.
-use borrow.Author.Tests.{lt-ltb, le-ltb}
-use Rattle.columns.specs.Values.{type_octet}
+use mathlib.Core.Path.{◌∙◌}
+use Rattle.columns.proofs.Types.{type_by}
 use Rattle.columns.proofs.values.type_octet.Goals as goal
 
-pub returns-then-typ-lt256 : goal.returns-then-typ-lt256
-unfolding type_octet
-returns-then-typ-lt256 c = rw (lt-ltb _ _ c.if-typ-lt256.true)
-
 pub returns : goal.returns
-unfolding type_octet
-returns c = rw (le-ltb _ _ c.if-typ-lt256.false)
+returns c = c.unwrap_or.ensures ∙ type_by _ _ c.try_from.ensures

@@ -7,6 +7,6 @@ pub returns-then-n-part : goal.returns-then-n-part
 unfolding value_text
 returns-then-n-part c = rw (eq-eqb _ _ c.if-n-part.true) c.octets.ensures
 
-pub returns : goal.returns
+pub returns-else-n-part : goal.returns-else-n-part
 unfolding value_text
-returns c = rw (ne_eqb _ _ c.if-n-part.false) c.covered.ensures
+returns-else-n-part c = rw (ne_eqb _ _ c.if-n-part.false) c.covered.ensures

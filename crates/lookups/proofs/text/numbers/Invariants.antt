@@ -1,11 +1,6 @@
--- `text::numbers` meets its contract: each turn goes on in the digits, and lays at most one number down where there is room. Assumes nothing.
-use mathlib.Core.Path.{◌≡◌}
-use Prim.Native.Nat.{◌-◌, ◌≤◌}
-use lib.ListN.{length}
+-- `text::numbers` lays a number down only where there is room. Assumes nothing.
+use Rattle.std.proofs.Common.{◌≤◌, length}
 use Rattle.lookups.proofs.text.numbers.Given as goal
 
-abbrev pub invariant-loop-at : goal.invariant-loop-at
-invariant-loop-at l = (length l.room ≡ length l.initial.room) × (l.n ≤ length l.initial.room) × (l.at ≤ length l.digits)
-
-abbrev pub decreases-loop-at : goal.decreases-loop-at
-decreases-loop-at l = length l.digits - l.at
+abbrev pub invariant-loop-part : goal.invariant-loop-part
+invariant-loop-part l = l.n ≤ length l.room

@@ -13,7 +13,7 @@ decreases-read_run l = length l.part.now
 
 abbrev pub invariant-read_run-loop-at : goal.invariant-read_run-loop-at
 invariant-read_run-loop-at l =
-    Turning l.kind l.level l.parent l.home l.base l.part l.initial.rows l.initial.counts l.rows l.seen l.counts l.at
+    Turning l.kind l.level l.parent l.home l.base l.part l.initial.tally l.tally l.seen l.at
 
 abbrev pub decreases-read_run-loop-at : goal.decreases-read_run-loop-at
 decreases-read_run-loop-at l = length l.part - l.at

@@ -1,10 +1,7 @@
 -- `level_end` goes from row to row. Assumes nothing.
-use Prim.Native.Nat.{◌-◌}
-use Rattle.refusing.proofs.Ends.{Ending}
+use mathlib.Core.Path.{◌≡◌}
+use Rattle.refusing.specs.Levels.{end_after}
 use Rattle.refusing.proofs.levels.level_end.Given as goal
 
 abbrev pub invariant-loop-row : goal.invariant-loop-row
-invariant-loop-row l = Ending l.rows l.place l.size l.end l.row
-
-abbrev pub decreases-loop-row : goal.decreases-loop-row
-decreases-loop-row l = 1022 - l.row
+invariant-loop-row l = l.end ≡ end_after l.rows l.place l.size l.row

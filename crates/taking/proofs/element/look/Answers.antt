@@ -1,19 +1,19 @@
 -- `element::look` finds the head of the element at a position. Assumes nothing.
-use native.Mathlib.Omega.{arith}
+use mathlib.Core.Path.{◌∙◌}
 use Rattle.taking.proofs.Heads.{look-few, look-long, look-empty, look-full}
 use Rattle.taking.proofs.element.look.Goals as goal
 
-pub returns-then-part-at-lt4 : goal.returns-then-part-at-lt4
-returns-then-part-at-lt4 c = look-few c.args.part.now c.args.at c.no_head.result c.no_head.ensures c.if-part-at-lt4.true
+pub returns-in_default : goal.returns-in_default
+returns-in_default c = look-few c.args.part.now c.args.at c.in_default.len_below
 
-pub returns-then-part-at : goal.returns-then-part-at
-returns-then-part-at c =
-    look-long c.args.part.now c.args.at c.wide.result c.wide-2.result (omega arith) c.wide.ensures.is c.wide-2.ensures.is c.no_head-then-part-at.result c.no_head-then-part-at.ensures c.if-part-at.true
+pub returns-then-value-len : goal.returns-then-value-len
+returns-then-value-len c =
+    look-long c.args.part.now c.args.at c.from-len.result c.in-len4-up.len_at_least (c.from-len.ensures ∙ c.from_be_bytes.ensures) c.if-value-len.true
 
 pub returns-then-len-eq0 : goal.returns-then-len-eq0
 returns-then-len-eq0 c =
-    look-empty c.args.part.now c.args.at c.wide.result c.wide-2.result (omega arith) c.wide.ensures.is c.wide-2.ensures.is (omega arith) c.if-len-eq0.true
+    look-empty c.args.part.now c.args.at c.from-len.result c.in-len4-up.len_at_least (c.from-len.ensures ∙ c.from_be_bytes.ensures) c.if-value-len.false c.if-len-eq0.true
 
-pub returns : goal.returns
-returns c =
-    look-full c.args.part.now c.args.at c.wide.result c.wide-2.result (omega arith) c.wide.ensures.is c.wide-2.ensures.is (omega arith) c.if-len-eq0.false
+pub returns-else-len-eq0 : goal.returns-else-len-eq0
+returns-else-len-eq0 c =
+    look-full c.args.part.now c.args.at c.from-len.result c.in-len4-up.len_at_least (c.from-len.ensures ∙ c.from_be_bytes.ensures) c.if-value-len.false c.if-len-eq0.false

@@ -1,39 +1,68 @@
 -- `element::take_one` judges one element by its line, writes its row, marks it and counts it. Assumes nothing.
-use mathlib.Core.Path.{◌∙◌}
-use native.Mathlib.Omega.{arith}
+use mathlib.Core.Path.{◌≡◌, ◌∙◌}
+use mathlib.Core.List.{List}
+use Prim.Native.Nat.{ℕ}
 use Rattle.rules.specs.Frames.{element, frames_of}
-use Rattle.taking.proofs.Lent.{count, small, line, must-at, many-at, inside-at, limited-at}
+use Rattle.rules.specs.Listings.{book, listing}
+use Rattle.listings.specs.Data.{entries_of}
+use Rattle.taking.specs.Lent.{AtLevel, Lines}
+use Rattle.taking.proofs.Lent.{line, must-at, many-at, inner_level, inner-limited, inner_some, limited-at, not-found, found_at, has_mark}
 use Rattle.taking.proofs.Crowds.{over-is}
 use Rattle.taking.proofs.Taking.{same-short, took_unlisted, took-kept, took-aside}
 use Rattle.taking.proofs.element.take_one.Goals as goal
 
-pub returns-then-lines-n : goal.returns-then-lines-n
-returns-then-lines-n c =
-    took_unlisted c.args.kind c.args.level c.args.seen.now c.args.parent c.args.place (element c.args.h (frames_of c.args.value.now)) c.args.counts c.args.rows.now c.requires.few
-    c.find-n.result c.count_one.result c.write_row.new.rows c.find-n.ensures.is
-    (omega (arith, count c.requires.lent, c.if-lines-n.true)) c.write_row.ensures c.count_one.ensures
+lines-of : {k v : ℕ} {xs : List ℕ} → AtLevel k v → xs ≡ entries_of (listing book v) → Lines k v xs
+lines-of a e = record { kind = a.kind; level = a.level; lines = e }
+
+pub returns-in_default : goal.returns-in_default
+returns-in_default c =
+    record {
+      same = c.add.ensures.same;
+      took = took_unlisted c.args.kind c.args.level c.args.seen.now c.args.parent c.args.place (element c.args.h (frames_of c.args.value.now)) c.args.tally.now.counts c.args.tally.now.rows.now c.requires.few
+          c.add.new.self.counts c.add.new.self.rows.now
+          (not-found (lines-of c.requires.there c.of_level-lines.ensures) c.args.h.typ c.args.h.inst c.requires.inst c.find.ensures c.in_default.is)
+          c.add.ensures.rows c.add.ensures.counts;
+    }
+
+pub bounds-lines-n : goal.bounds-lines-n
+bounds-lines-n c = (found_at (lines-of c.requires.there c.of_level-lines.ensures) c.args.h.typ c.args.h.inst c.requires.inst c.find.ensures c.in-Some.is).1
 
 pub bounds-seen-n : goal.bounds-seen-n
-bounds-seen-n c = omega (arith, small c.requires.lent, c.if-lines-n.false)
+bounds-seen-n c = has_mark (lines-of c.requires.there c.of_level-lines.ensures) c.args.h.typ c.args.h.inst c.requires.inst c.find.ensures c.in-Some.is
 
 pub bounds-seen-n-2 : goal.bounds-seen-n-2
-bounds-seen-n-2 c = omega (arith, small c.requires.lent, c.if-lines-n.false)
+bounds-seen-n-2 c = has_mark (lines-of c.requires.there c.of_level-lines.ensures) c.args.h.typ c.args.h.inst c.requires.inst c.find.ensures c.in-Some.is
+
+pub bounds-seen-n-3 : goal.bounds-seen-n-3
+bounds-seen-n-3 c = has_mark (lines-of c.requires.there c.of_level-lines.ensures) c.args.h.typ c.args.h.inst c.requires.inst c.find.ensures c.in-Some.is
 
 pub returns-then-stand-eq0 : goal.returns-then-stand-eq0
 returns-then-stand-eq0 c =
-    took-kept c.args.kind c.args.level c.args.seen.now c.args.parent c.args.place (element c.args.h (frames_of c.args.value.now)) c.args.counts c.args.rows.now c.requires.few
-    c.find-n.result c.listed_standing-stand.result c.mark_after.result c.many.result c.is_short-short.result c.is_over-over.result c.write_row-2.new.rows
-    c.find-n.ensures.is (line c.requires.lent c.if-lines-n.false) (c.many.ensures ∙ many-at c.requires.lent c.if-lines-n.false) (same-short c.args.h (frames_of c.args.value.now) c.is_short-short.ensures)
-    (c.is_over-over.ensures ∙ rw (limited-at c.requires.lent c.if-lines-n.false) (over-is c.args.level c.find-n.result (line c.requires.lent c.if-lines-n.false) c.args.value.now))
-    c.listed_standing-stand.ensures c.mark_after.ensures c.write_row-2.ensures
-    c.inside.result c.limited.result c.count_one-then-stand-eq0.result c.if-stand-eq0.true
-    (c.inside.ensures ∙ inside-at c.requires.lent c.if-lines-n.false) (c.limited.ensures ∙ limited-at c.requires.lent c.if-lines-n.false) c.count_one-then-stand-eq0.ensures
+    let s = lines-of c.requires.there c.of_level-lines.ensures in
+    let f = found_at s c.args.h.typ c.args.h.inst c.requires.inst c.find.ensures c.in-Some.is in
+    record {
+      same = c.add-then-stand-eq0.ensures.same;
+      took = took-kept
+          c.args.kind c.args.level c.args.seen.now c.args.parent c.args.place (element c.args.h (frames_of c.args.value.now)) c.args.tally.now.counts c.args.tally.now.rows.now c.requires.few
+          c.in-Some.n c.listed_standing-stand.result c.mark_after.result c.many.result c.is_short-short.result c.is_over-over.result c.add-then-stand-eq0.new.self.rows.now
+          f.0 (line s f.1) (c.many.ensures ∙ many-at s f.1) (same-short c.args.h (frames_of c.args.value.now) c.is_short-short.ensures)
+          (c.is_over-over.ensures ∙ rw (limited-at s f.1) (over-is c.args.level c.in-Some.n (line s f.1) c.args.value.now))
+          c.listed_standing-stand.ensures c.mark_after.ensures (rw (← c.if-stand-eq0.true) at c.add-then-stand-eq0.ensures.rows)
+          c.inside.result c.add-then-stand-eq0.new.self.counts c.if-stand-eq0.true
+          (inner_level s f.1 c.inside.result c.inside.ensures) (inner-limited s f.1 c.inside.result c.inside.ensures) (inner_some _ c.inside.result c.inside.ensures) c.add-then-stand-eq0.ensures.counts;
+    }
 
 pub returns : goal.returns
 returns c =
-    took-aside c.args.kind c.args.level c.args.seen.now c.args.parent c.args.place (element c.args.h (frames_of c.args.value.now)) c.args.counts c.args.rows.now c.requires.few
-    c.find-n.result c.listed_standing-stand.result c.mark_after.result c.many.result c.is_short-short.result c.is_over-over.result c.write_row-2.new.rows
-    c.find-n.ensures.is (line c.requires.lent c.if-lines-n.false) (c.many.ensures ∙ many-at c.requires.lent c.if-lines-n.false) (same-short c.args.h (frames_of c.args.value.now) c.is_short-short.ensures)
-    (c.is_over-over.ensures ∙ rw (limited-at c.requires.lent c.if-lines-n.false) (over-is c.args.level c.find-n.result (line c.requires.lent c.if-lines-n.false) c.args.value.now))
-    c.listed_standing-stand.ensures c.mark_after.ensures c.write_row-2.ensures
-    c.first_short-first.result c.must.result c.count_one-2.result c.if-stand-eq0.false (c.must.ensures ∙ must-at c.requires.lent c.if-lines-n.false) c.first_short-first.ensures c.count_one-2.ensures
+    let s = lines-of c.requires.there c.of_level-lines.ensures in
+    let f = found_at s c.args.h.typ c.args.h.inst c.requires.inst c.find.ensures c.in-Some.is in
+    record {
+      same = c.add-2.ensures.same;
+      took = took-aside
+          c.args.kind c.args.level c.args.seen.now c.args.parent c.args.place (element c.args.h (frames_of c.args.value.now)) c.args.tally.now.counts c.args.tally.now.rows.now c.requires.few
+          c.in-Some.n c.listed_standing-stand.result c.mark_after.result c.many.result c.is_short-short.result c.is_over-over.result c.add-2.new.self.rows.now
+          f.0 (line s f.1) (c.many.ensures ∙ many-at s f.1) (same-short c.args.h (frames_of c.args.value.now) c.is_short-short.ensures)
+          (c.is_over-over.ensures ∙ rw (limited-at s f.1) (over-is c.args.level c.in-Some.n (line s f.1) c.args.value.now))
+          c.listed_standing-stand.ensures c.mark_after.ensures c.add-2.ensures.rows
+          c.first_short-first.result c.must.result c.add-2.new.self.counts c.if-stand-eq0.false (c.must.ensures ∙ must-at s f.1) c.first_short-first.ensures c.add-2.ensures.counts;
+    }

@@ -1,11 +1,12 @@
 -- `level::lacking` goes from one mandatory line to the next, and stops at the first that lacks. Assumes nothing.
+use mathlib.Core.Path.{◌∙◌}
 use native.Mathlib.Omega.{arith}
 use Rattle.taking.proofs.Lacking.{begun, at_here, at_next, at-end}
 use Rattle.taking.proofs.Lent.{small}
 use Rattle.taking.proofs.level.lacking.Goals as goal
 
 pub loop-n-init : goal.loop-n-init
-loop-n-init c = begun c.requires.lent
+loop-n-init c = begun (record { kind = c.requires.there.kind; level = c.requires.there.level; lines = c.of_level-lines.ensures })
 
 pub offset_bounds-lines-n : goal.offset_bounds-lines-n
 offset_bounds-lines-n c = omega (arith, small c.loop-n.invariant.lent)
@@ -21,7 +22,7 @@ fault_at-requires c = c.requires.home
 
 pub returns-then-line_lacks : goal.returns-then-line_lacks
 returns-then-line_lacks c =
-    at_here c.loop-n.invariant c.loop-n-test.true c.line_lacks.ensures c.if-line_lacks.true c.fault_at.result c.fault_at.ensures
+    at_here c.loop-n.invariant c.loop-n-test.true c.line_lacks.ensures c.if-line_lacks.true c.fault_at.result (c.fault_at.ensures ∙ rw (c.type_of.ensures, c.inst_of.ensures))
 
 pub overflow_add-n : goal.overflow_add-n
 overflow_add-n c = omega (arith, c.skip.ensures.low)

@@ -5,47 +5,36 @@ use Prim.Native.Nat.{ℕ, ◌+◌, ◌-◌, ◌≤◌, ◌<◌}
 use native.Mathlib.Omega.{arith}
 use lib.ListN.{length, get_or, take, drop}
 use Rattle.rules.specs.Listings.{book, listing}
-use Rattle.listings.specs.Data.{entries_of}
+use Rattle.listings.specs.Data.{entries_of, numbers_of}
 use Rattle.listings.proofs.Levels.{depth, size, level-part, bounds}
-use Rattle.taking.specs.Lent.{AtLevel}
 use Rattle.taking.proofs.line.of_level.Goals as goal
 
-module _ {xs : List ℕ} {v : ℕ} (a : AtLevel xs v) where
-  size_is : length xs ≡ 145
-  size_is = ap length a.numbers ∙ size
+size-is : {xs : List ℕ} → xs ≡ numbers_of book → length xs ≡ 145
+size-is e = ap length e ∙ size
 
-  long : v + 1 < length xs
-  long = omega (arith, size_is, depth, a.level)
-
+module _ {xs : List ℕ} {v : ℕ} (numbers : xs ≡ numbers_of book) (level : v < length book.levels) where
   within : (get_or xs v 0 ≤ get_or xs (v + 1) 0) × (get_or xs (v + 1) 0 ≤ length xs)
-  within = rw a.numbers (bounds book v a.level)
+  within = rw numbers (bounds book v level)
 
   lines : take (get_or xs (v + 1) 0 - get_or xs v 0) (drop (get_or xs v 0) xs) ≡ entries_of (listing book v)
-  lines = rw a.numbers (level-part book v a.level)
+  lines = rw numbers (level-part book v level)
 
-pub bounds-levels-level : goal.bounds-levels-level
-bounds-levels-level c = omega (arith, long c.requires)
+pub bounds-numbers-level : goal.bounds-numbers-level
+bounds-numbers-level c = omega (arith, depth, c.requires)
 
-pub overflow_cast-from-2 : goal.overflow_cast-from-2
-overflow_cast-from-2 c = omega (arith, c.shared_slice_known-1.given c.args.level)
-
-pub bounds-levels-level-2 : goal.bounds-levels-level-2
-bounds-levels-level-2 c = long c.requires
-
-pub overflow_cast-end-2 : goal.overflow_cast-end-2
-overflow_cast-end-2 c = omega (arith, c.shared_slice_known-2-1.given (c.args.level + 1))
-
-pub offset_bounds-levels-from : goal.offset_bounds-levels-from
-offset_bounds-levels-from c = let a = c.requires in omega (arith, size_is a, (within a).0, (within a).1)
+pub bounds-numbers-level-2 : goal.bounds-numbers-level-2
+bounds-numbers-level-2 c = omega (arith, depth, c.requires)
 
 pub slice_bounds-result-count : goal.slice_bounds-result-count
-slice_bounds-result-count c = (within c.requires).0
+slice_bounds-result-count c = rw c.from-level.ensures (within c.numbers-numbers.ensures c.requires).0
 
 pub slice_bounds-result-start : goal.slice_bounds-result-start
-slice_bounds-result-start c = (within c.requires).0
+slice_bounds-result-start c = rw c.from-level.ensures (within c.numbers-numbers.ensures c.requires).0
 
 pub slice_bounds-result-end : goal.slice_bounds-result-end
-slice_bounds-result-end c = (within c.requires).1
+slice_bounds-result-end c =
+    let w : get_or c.numbers-numbers.result.now (c.from-level.result + 1) 0 ≤ length c.numbers-numbers.result.now = rw c.from-level.ensures (within c.numbers-numbers.ensures c.requires).1 in
+    omega (arith, size-is c.numbers-numbers.ensures, w)
 
 pub returns : goal.returns
-returns c = lines c.requires
+returns c = rw c.from-level.ensures (lines c.numbers-numbers.ensures c.requires)

@@ -1,8 +1,0 @@
--- `pick` by the test. Assumes nothing.
-use Rattle.refusing.proofs.pick.Goals as goal
-
-pub returns-then-c : goal.returns-then-c
-returns-then-c c = rw c.if-c.true
-
-pub returns : goal.returns
-returns c = rw c.if-c.false
