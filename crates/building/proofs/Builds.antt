@@ -1,27 +1,31 @@
 -- What is answered: by the checks before the message is made, and then by the message of the table's rows, which is the message that the rules build. Assumes nothing.
---     Holds       a run of numbers that holds the table's rows         makes   it can be written
---     refused-early, builds                              the answer
+--     early-none, opens   the first checks pass exactly where a table opens         numbers-low   octets hold small numbers
+--     Holds               a run of numbers that holds the table's rows         makes   it can be written
+--     refused-early, refused-large, builds   the answer
 use mathlib.Core.Path.{◌≡◌, refl, sym, ap, ◌∙◌}
-use mathlib.Core.Bool.{Bool, true, false, cond}
-use mathlib.Core.List.{List}
+use mathlib.Core.Bool.{Bool, true, false, cond, not}
+use mathlib.Core.List.{List, [], ◌∷◌}
 use Rattle.std.specs.Prelude.{Option, Some, None, is_some, Err}
 use Prim.Native.Nat.{ℕ, zero, suc, ◌+◌, ◌-◌, ◌*◌, ◌≤◌, ◌<◌}
 use native.Mathlib.Omega.{arith}
 use borrow.Author.Tests.{lt-ltb, le-ltb}
+use lib.Dec.{ltb}
 use lib.ListN.{length, get_or, drop, length-append, length-drop}
 use lib.Seq.{length-take-le, get_or-drop}
-use Rattle.rules.specs.Sizes.{header_numbers, row_numbers, used}
-use Rattle.rules.specs.Types.{is_group}
-use Rattle.rules.specs.Listings.{book, message_of}
-use Rattle.rules.specs.Values.{row_count, table_type, table_kind, cell, row_type, row_place, row_length}
-use Rattle.rules.specs.Verdicts.{refused, check, refuses, first}
-use Rattle.rules.specs.Emitting.{sizes, emitted}
-use Rattle.rules.specs.Built.{rest_of, given, givens, given_rows, rest_given, built_length, built, build_checks, late_verdict, headed_checks, build_length, build_room}
+use Rattle.rules.specs.Sizes.{largest_message, header_numbers, row_numbers, used, most_rows}
+use Rattle.rules.specs.Types.{among, is_group}
+use Rattle.rules.specs.Listings.{book, message_of, is_message}
+use Rattle.rules.specs.Standing.{kept}
+use Rattle.rules.specs.Values.{row_count, table_type, table_kind, cell, row_standing, row_type, row_place, row_length}
+use Rattle.rules.specs.Verdicts.{accepted, refused, check, refuses, first}
+use Rattle.rules.specs.Emitting.{sizes, size_of, emitted}
+use Rattle.rules.specs.Built.{rest_of, given, givens, given_rows, reasons, any_of, has_teid, rest_given, built_length, built, build_checks, late_verdict, headed_checks, build_length, build_room}
+use Rattle.rules.specs.Octets.{numbers_in}
 use Rattle.rules.specs.Answers.{Builds}
 use Rattle.rules.specs.declared.Verdict.{Verdict}
 use Rattle.rules.specs.declared.Sent.{Sent}
 use Rattle.rules.proofs.Checks.{first_append}
-use Rattle.rules.proofs.Reasons.{RowRight, none-holds}
+use Rattle.rules.proofs.Reasons.{RowRight, NoReason, no_reason, none-holds}
 use Rattle.answers.specs.declared.Refusal.{Refusal}
 use Rattle.answers.specs.Refusals.{verdict_of, sent_of}
 use Rattle.answers.proofs.Refusing.{named_refuses}
@@ -33,6 +37,30 @@ use Rattle.building.specs.Start.{header_size, teid_in}
 use Rattle.building.specs.Making.{early_checks, Opens, Heads, Makes, Made, size, message, late_checks, BuildsBy}
 
 -- ---- the first checks
+
+module _ (kind typ sequence : ℕ) (t values : List ℕ) where
+  abbrev early : Verdict
+  early = first (early_checks kind typ sequence t values)
+
+  pub early-none : among kind book.kinds ≡ true → is_message book typ ≡ true → among kind (message_of book typ).kinds ≡ true → NoReason sequence t values → accepted ≡ early
+  unfolding first check
+  early-none e f h g = rw (e, f, h, none-holds sequence t values g)
+
+  pub opens : early.code ≡ 0 → Opens kind typ sequence t values
+  unfolding first check
+  opens z = go (among kind book.kinds) (is_message book typ) (among kind (message_of book typ).kinds) (any_of (reasons sequence t values)) refl refl refl refl z
+    where
+      go : (a c o d : Bool) → among kind book.kinds ≡ a → is_message book typ ≡ c → among kind (message_of book typ).kinds ≡ o → any_of (reasons sequence t values) ≡ d
+          → (cond (refuses (cond (not a) (refused 1 0) accepted)) (cond (not a) (refused 1 0) accepted)
+          (cond (refuses (cond (not c) (refused 7 0) accepted)) (cond (not c) (refused 7 0) accepted)
+          (cond (refuses (cond (not o) (refused 21 0) accepted)) (cond (not o) (refused 21 0) accepted)
+          (cond (refuses (cond d (refused 14 0) accepted)) (cond d (refused 14 0) accepted) accepted)))).code ≡ 0
+          → Opens kind typ sequence t values
+      go false c o d w e h f y = absurd (omega arith)
+      go true false o d w e h f y = absurd (omega arith)
+      go true true false d w e h f y = absurd (omega arith)
+      go true true true true w e h f y = absurd (omega arith)
+      go true true true false w e h f y = record { kind_known = w; type_listed = e; on_kind = h; right = no_reason sequence t values f }
 
 module _ (kind typ teid sequence : ℕ) (t values room : List ℕ) where
   -- the checks are those, and two more
@@ -47,7 +75,39 @@ module _ (kind typ teid sequence : ℕ) (t values room : List ℕ) where
       let b = by-early r in
       record { verdict_is = w ∙ f ∙ sym b; length_is = rw (b, r); room_left = rw (b, r) }
 
+  -- more than 1,022 rows are more than 4,096 octets, however short each is
+  many-rows : (k n : ℕ) → ((j : ℕ) → n ≤ j → j < n + k → row_standing t j ≡ kept) → 4 * k ≤ sizes (givens t values n k)
+  unfolding sizes givens given size_of
+  many-rows zero n f = omega arith
+  many-rows (suc k) n f =
+      rw (f n (omega arith) (omega arith)) (omega (arith, many-rows k (suc n) (λ j l c. f j (omega arith) (omega arith))))
+
+  large-by : (c : Bool) → 8 ≤ 4 + length (rest_of c teid sequence)
+  large-by true = omega arith
+  large-by false = omega arith
+
+  fifteen : Opens kind typ sequence t values → most_rows < row_count t → late_verdict book kind typ teid sequence t values (length room) ≡ refused 15 0
+  unfolding build_checks first check
+  fifteen o l =
+      let a = many-rows (row_count t) 0 (λ j z c. (o.right.each j (omega arith)).stand) in
+      let b : ltb largest_message (built_length book kind typ teid sequence t values) ≡ true =
+      lt-ltb largest_message (built_length book kind typ teid sequence t values) (omega (arith, a, large-by (has_teid book kind typ teid sequence t values))) in
+      rw (o.kind_known, o.type_listed, o.on_kind, none-holds sequence t values o.right, b)
+
+  pub refused-large : Opens kind typ sequence t values → (x : ℕ) → x ≡ row_count t → most_rows < x → (s : Sent) → s ≡ record { verdict = refused 15 0; length = 0 }
+      → BuildsBy kind typ teid sequence t values room s room
+  refused-large o x e l s w =
+      let v = fifteen o (omega (arith, e)) in
+      record { verdict_is = rw w (sym v); length_is = rw (w, v); room_left = rw v }
+
 -- ---- the rows
+
+pub numbers-low : (table : List ℕ) → ((j : ℕ) → get_or table j 0 < 256) → (j : ℕ) → get_or (numbers_in table) j 0 < 65536
+unfolding numbers_in
+numbers-low [] f j = omega arith
+numbers-low (x ∷ []) f j = omega arith
+numbers-low (x ∷ y ∷ xs) f zero = omega (arith, f 0, f 1)
+numbers-low (x ∷ y ∷ xs) f (suc j) = numbers-low xs (λ i. f (suc (suc i))) j
 
 -- a run of numbers holds the rows of a table, which stand behind its header
 pub record Holds (t rows : List ℕ) (count : ℕ) : Type 0 where

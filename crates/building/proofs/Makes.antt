@@ -9,15 +9,16 @@ use native.Mathlib.Omega.{arith}
 use borrow.Author.Tests.{lt-ltb, le-ltb}
 use lib.Dec.{ltb}
 use lib.ListN.{length, take, drop, length-append}
-use lib.Seq.{take_at}
+use lib.Seq.{length-take-le, take_at}
 use Rattle.rules.specs.Sizes.{largest_message}
 use Rattle.rules.specs.Listings.{book}
+use Rattle.rules.specs.Table.{laid}
 use Rattle.rules.specs.Verdicts.{refused, check, first}
 use Rattle.rules.specs.Emitting.{accepted_whole}
 use Rattle.rules.specs.declared.Verdict.{Verdict}
 use Rattle.rules.specs.declared.Sent.{Sent}
 use Rattle.answers.specs.Refusals.{sent_of}
-use Rattle.emitting.specs.Emits.{over, parts_in, RowFit, PutsRows}
+use Rattle.emitting.specs.Emits.{over, valued, parts_in, RowFit, PutsRows}
 use Rattle.emitting.proofs.Overs.{over-over}
 use Rattle.emitting.proofs.Bridge.{length-low}
 use Rattle.building.specs.Start.{header_size, start_of}
@@ -32,6 +33,14 @@ start-length typ None sequence n = refl
 pub header_least : (teid : Option ℕ) → 8 ≤ header_size teid
 header_least (Some teid) = omega arith
 header_least None = omega arith
+
+-- the start of a draft, copied over the start of the room
+pub copied : (draft room : List ℕ) (n : ℕ) → n ≤ length draft → valued draft 0 n room 0 ≡ laid (take n draft) room
+unfolding laid
+copied draft room n l =
+    let e : length (take n draft) ≡ n = length-take-le n draft l in
+    let z : 0 + n ≡ n = omega arith in
+    rw (e, z)
 
 -- ---- the message
 

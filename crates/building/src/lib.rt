@@ -65,9 +65,14 @@ pub fn build<T: Numbers>(
     let kind = u32::from(table.at(5));
     let typ = u32::from(table.at(4));
     let header = early(kind, typ, teid, sequence, table, values)?;
+    let count = usize::from(table.at(0));
+    // A row takes four octets or more, so that of so many the sizes need not be summed.
+    if 1022 < count {
+        return Err(Refusal::Room.into());
+    }
     let rows = Rows {
         numbers: table.after(6),
-        count: usize::from(table.at(0)),
+        count,
     };
     making::make(kind, header, &rows, values, room)
 }

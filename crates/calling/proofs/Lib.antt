@@ -1,3 +1,4 @@
 pub mod Lent
 pub mod Deciding
 pub mod Settling
+pub mod Held

@@ -1,10 +1,10 @@
--- A copy that is laid octet by octet, and a message over the start of one that is long enough. Assumes nothing.
+-- A copy that is laid octet by octet, and a message over the start of one that is long enough, where one that is shorter stays. Assumes nothing.
 use mathlib.Core.Path.{◌≡◌, refl, ap, ◌∙◌}
 use mathlib.Core.List.{List, [], ◌∷◌, ◌++◌, append-nil}
 use Prim.Native.Nat.{ℕ, zero, suc, ◌+◌, ◌≤◌, ◌<◌}
 use native.Mathlib.Omega.{arith}
 use native.Mathlib.Numerals.{add-one}
-use borrow.Author.Tests.{le-ltb}
+use borrow.Author.Tests.{lt-ltb, le-ltb}
 use lib.ListN.{length, get_or, take, drop, set}
 use lib.Seq.{take-length}
 use Rattle.rules.specs.Table.{laid}
@@ -43,3 +43,7 @@ all-laid m part {n = n} e h k l =
 pub goes_over : (m copy : List ℕ) → length m ≤ length copy → laid_over m copy ≡ laid m copy
 unfolding laid_over
 goes_over m copy room = rw (le-ltb (length copy) (length m) room)
+
+pub too_short : (m copy : List ℕ) → length copy < length m → copy ≡ laid_over m copy
+unfolding laid_over
+too_short m copy l = rw (lt-ltb (length copy) (length m) l)

@@ -4,8 +4,8 @@
 ghost use Rattle.std.specs.Prelude.{◌≡◌, length};
 ghost use Rattle.copying.specs.Copying.{laid_over};
 
-// Octets over a part that is as long. One by one, which the compiler makes one call of memcpy: `copy_from_slice` would be one of memmove, which the
-// card's library does not call.
+// Octets over a part that is as long. One by one, of which the compiler makes moves of many octets or a call of memcpy: `copy_from_slice` would be one of
+// memmove, which the card's library does not call.
 pub fn put_octets(octets: &[u8], part: &mut [u8])
     requires { length part.old ≡ length octets.now }
     ensures len { length part.new ≡ length part.old }

@@ -1,17 +1,18 @@
 -- Octets laid over a part of a buffer: a row after a row. Assumes nothing.
 use mathlib.Core.Path.{◌≡◌, sym, ap, ◌∙◌}
-use mathlib.Core.Bool.{Bool, false}
+use mathlib.Core.Bool.{Bool, true, false}
 use mathlib.Core.List.{List, [], ◌++◌, append_assoc, append-nil}
 use Prim.Native.Nat.{ℕ, ◌+◌, ◌-◌, ◌≤◌, ◌<◌}
 use native.Mathlib.Omega.{arith}
+use native.Mathlib.Nat.{add-zero}
 use borrow.Rule.Slice.PartMut.{put_mid}
 use borrow.Author.Tests.{eq-eqb}
-use lib.ListN.{length, take, drop, length-append, length-drop}
+use lib.ListN.{length, take, drop, length-append, length-drop, take-append-drop}
 use lib.Seq.{length-take-le, take_at, drop_at, drop-drop}
 use Rattle.rules.specs.Types.{is_group}
 use Rattle.rules.specs.Emitting.{head_octets}
 use Rattle.emitting.proofs.Puts.{one_less}
-use Rattle.emitting.specs.Emits.{number, length_in, last_in, headed, valued, part_within, parts_in, over, PutsRow, PutRow, PutsRows}
+use Rattle.emitting.specs.Emits.{number, inside_in, length_in, last_in, headed, valued, part_within, parts_in, over, PutsRow, PutRow, PutsRows}
 
 -- what stands before the end of what was laid, and after it
 front_of : (out : List ℕ) (at : ℕ) (xs : List ℕ) → at + length xs ≤ length out → take (at + length xs) (over out at xs) ≡ take at out ++ xs
@@ -36,6 +37,13 @@ over-over out at xs ys l =
     (append_assoc (take at out) xs (ys ++ drop (at + length xs + length ys) out)
     ∙ ap (λ (zs : List ℕ). take at out ++ zs) (sym (append_assoc xs ys (drop (at + length xs + length ys) out))))
 
+pub over_none : (out : List ℕ) (at : ℕ) → out ≡ over out at []
+over_none out at = let e : at + 0 ≡ at = add-zero at in rw e (sym (take-append-drop at out))
+
+pub over-length : (out : List ℕ) (at : ℕ) (xs : List ℕ) → at + length xs ≤ length out → length (over out at xs) ≡ length out
+over-length out at xs l =
+    omega (arith, length-append (take at out) (xs ++ drop (at + length xs) out), length-append xs (drop (at + length xs) out), length-take-le at out (omega arith), length-drop (at + length xs) out)
+
 -- a part of a source, copied over a part of a buffer
 pub laid-over : (source : List ℕ) (place len : ℕ) (out : List ℕ) (at : ℕ) {xs : List ℕ} → xs ≡ take (place + len - place) (drop place source)
     → put_mid at (at + len - at) out xs ≡ valued source place len out at
@@ -48,6 +56,9 @@ laid-over source place len out at {xs} e =
 
 pub length-value : (rows : List ℕ) (n count : ℕ) → is_group (number rows n 1) ≡ false → (x : ℕ) → x ≡ number rows n 4 → x ≡ length_in rows n count
 length-value rows n count g x e = rw g e
+
+pub length-group : (rows : List ℕ) (n count : ℕ) → is_group (number rows n 1) ≡ true → (x : ℕ) → x ≡ inside_in rows n count → x ≡ length_in rows n count
+length-group rows n count g x e = rw g e
 
 module _ (rows : List ℕ) (n count : ℕ) (source : List ℕ) (own : Bool) (out : List ℕ) (at : ℕ) where
   part-value : number rows n 5 ≡ 0 → is_group (number rows n 1) ≡ false

@@ -3,10 +3,14 @@ use mathlib.Core.Path.{◌≡◌, ◌∙◌}
 use mathlib.Core.List.{List, [], ◌∷◌, append_assoc}
 use Prim.Native.Nat.{ℕ, suc, ◌+◌, ◌-◌, ◌*◌, ◌≤◌, ◌<◌}
 use native.Mathlib.Omega.{arith}
+use native.Mathlib.Nat.{add-zero}
 use borrow.Author.Tests.{lt-ltb, le-ltb}
-use lib.ListN.{length, set, take, drop}
+use lib.ListN.{length, get_or, set, take, drop}
 use lib.Seq.{sets-eq}
 use Rattle.emitting.specs.Emits.{number, size_at_row, sizes_in, within_rows, over}
+
+pub at_zero : (rows : List ℕ) (j : ℕ) → get_or rows (6 * j) 0 ≡ number rows j 0
+at_zero rows j = rw (add-zero (6 * j))
 
 -- ---- sums
 

@@ -5,7 +5,7 @@ ghost use Rattle.std.specs.Prelude.{◌≡◌, ◌<◌};
 ghost use Rattle.rules.specs.Types.{is_group};
 ghost use Rattle.emitting.specs.Emits.{HasRow, HasRows, row_at, Sized, sizes_in, Summed, inside_in, HasFourth, fourth_of, Heading, headed, is_received, PutsRow, PutRow, PutsRows, put_rows};
 
-pub use numbers::{Numbers, Octets};
+pub use numbers::{Joined, Numbers, Octets};
 
 mod numbers;
 

@@ -1,5 +1,5 @@
 // How numbers are lent: as numbers, or as octets.
-ghost use Rattle.std.specs.Prelude.{◌≡◌, ℕ, List, ◌≤◌, ◌<◌, length, get_or, drop};
+ghost use Rattle.std.specs.Prelude.{◌≡◌, ℕ, List, ◌++◌, ◌≤◌, ◌<◌, length, get_or, drop};
 ghost use Rattle.rules.specs.Octets.{numbers_in};
 
 // A run of numbers. What reads one reads either form of it by the same code.
@@ -53,5 +53,34 @@ impl<'a> Numbers for Octets<'a> {
 
     fn after(self, i: usize) -> Octets<'a> {
         Octets(&self.0[2 * i..])
+    }
+}
+
+// Numbers, and octets behind them.
+#[derive(Clone, Copy)]
+pub struct Joined<'a>(pub &'a [u16], pub Octets<'a>);
+
+#[tactic(auto, using(crate::proofs::Lent::joined))]
+impl<'a> Numbers for Joined<'a> {
+    ghost numbers = { λ t. t.0.now ++ numbers_in t.1.0.now };
+
+    fn len(self) -> usize {
+        self.0.len() + self.1.len()
+    }
+
+    fn at(self, i: usize) -> u16 {
+        if i < self.0.len() {
+            self.0[i]
+        } else {
+            self.1.at(i - self.0.len())
+        }
+    }
+
+    fn after(self, i: usize) -> Joined<'a> {
+        if i < self.0.len() {
+            Joined(&self.0[i..], self.1)
+        } else {
+            Joined(&[], self.1.after(i - self.0.len()))
+        }
     }
 }

@@ -46,6 +46,10 @@ find_message (x ∷ xs) t = go (eqb x.typ t) refl (find_message xs t)
 
 -- ---- these messages
 
+pub count : length book.messages ≡ 10
+unfolding book messages
+count = refl
+
 pub sought_from_find : (t : ℕ) (r : Option (Bor Handled)) → option_map (λ (b : Bor Handled). b.now) r ≡ find (λ (h : Handled). eqb h.typ t) (map handled_of book.messages) → Sought t r
 unfolding is_message message_of
 sought_from_find t None e =

@@ -36,6 +36,10 @@ span_by count t r n =
 unfoldable pub desk_by : ℕ → ℕ → ℕ → ℕ → List ℕ → Span
 desk_by count r message copy t = cond (eqb message copy) (span_by count t r copy) nowhere
 
+-- a span lies in a buffer of n octets
+abbrev pub Within : Span → ℕ → Type 0
+Within s n = s.start + s.len ≤ n
+
 -- what is found of a buffer: nothing where the span is nowhere, or the part that stands there
 abbrev pub Finds : Bor (List ℕ) → Span → Option (Bor (List ℕ)) → Type 0
 Finds buffer s None = s ≡ nowhere

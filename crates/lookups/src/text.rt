@@ -1,6 +1,6 @@
 // The text of a lookup: fields with blanks between them, octets in hex, numbers in decimal, commas between those of a table. `-` is
 // an empty field. What is no such text is read as something, and never outside of what is lent.
-ghost use Rattle.std.specs.Prelude.{◌<◌};
+ghost use Rattle.std.specs.Prelude.{◌≤◌, ◌<◌, length};
 
 use std::io;
 use wording::Sheet;
@@ -22,7 +22,9 @@ fn nibble(digit: u8) -> u8
 }
 
 // The octets of a field, as many as there is room for.
-pub(crate) fn octets<'a>(digits: &[u8], room: &'a mut [u8]) -> &'a [u8] {
+pub(crate) fn octets<'a>(digits: &[u8], room: &'a mut [u8]) -> &'a [u8]
+    ensures { length result.now ≤ length room.old }
+{
     for (octet, pair) in room.iter_mut().zip(digits.chunks_exact(2)) {
         *octet = nibble(pair[0]) * 16 + nibble(pair[1]);
     }
@@ -52,7 +54,9 @@ pub(crate) fn long(digits: &[u8]) -> u32 {
 }
 
 // The numbers of a table, as many as there is room for. A comma at the end begins no number. How many there are is known at the end alone.
-pub(crate) fn numbers<'a>(digits: &[u8], room: &'a mut [u16]) -> &'a [u16] {
+pub(crate) fn numbers<'a>(digits: &[u8], room: &'a mut [u16]) -> &'a [u16]
+    ensures { length result.now ≤ length room.old }
+{
     let mut n = 0;
     if !matches!(digits, [] | [b'-']) {
         let digits = digits.strip_suffix(b",").unwrap_or(digits);

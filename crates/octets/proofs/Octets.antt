@@ -1,6 +1,7 @@
 -- A list of numbers as octets, number by number. Assumes nothing.
---     laid-more, laid-all   one number more of those that are laid, and all of them
---     fits, stored          a table that fits: the header's octets, then the rows'
+--     length-octets, high, low, take-octets   its length, its octets and its start
+--     laid-more, laid-all                     one number more of those that are laid, and all of them
+--     fits, stored                            a table that fits: the header's octets, then the rows'
 use mathlib.Core.Bool.{false}
 use mathlib.Core.Path.{◌≡◌, refl, ap, ◌∙◌}
 use mathlib.Core.List.{List, [], ◌∷◌, ◌++◌, append-nil}
@@ -8,7 +9,7 @@ use Prim.Native.Nat.{ℕ, zero, suc, ◌+◌, ◌-◌, ◌*◌, ◌/◌, ◌%◌
 use native.Mathlib.Omega.{arith}
 use native.Mathlib.Numerals.{add-one}
 use lib.ListN.{length, get_or, set, take, drop, length-drop, drop_of_length-le}
-use lib.Seq.{take_all, drop-drop}
+use lib.Seq.{take_all, take-nil, drop-drop}
 use borrow.Author.Tests.{le-ltb}
 use borrow.Rule.Slice.PartMut.{put_mid, mid_of}
 use Rattle.rules.specs.Sizes.{most_rows, row_numbers, used}
@@ -16,8 +17,31 @@ use Rattle.rules.specs.Table.{numbers_by, laid}
 use Rattle.rules.specs.Octets.{octets_of}
 use Rattle.octets.specs.Stored.{put2, misfit}
 
+pub length-octets : (xs : List ℕ) → length (octets_of xs) ≡ 2 * length xs
+unfolding octets_of
+length-octets [] = refl
+length-octets (x ∷ xs) = omega (arith, length-octets xs)
+
 next : (i : ℕ) → 2 * suc i ≡ suc (suc (2 * i))
 next i = omega arith
+
+pub high : (xs : List ℕ) (i : ℕ) → get_or (octets_of xs) (2 * i) 0 ≡ get_or xs i 0 / 256
+unfolding octets_of
+high [] i = refl
+high (x ∷ xs) zero = refl
+high (x ∷ xs) (suc i) = rw (next i) (high xs i)
+
+pub low : (xs : List ℕ) (i : ℕ) → get_or (octets_of xs) (suc (2 * i)) 0 ≡ get_or xs i 0 % 256
+unfolding octets_of
+low [] i = refl
+low (x ∷ xs) zero = refl
+low (x ∷ xs) (suc i) = rw (next i) (low xs i)
+
+pub take-octets : (n : ℕ) (xs : List ℕ) → take (2 * n) (octets_of xs) ≡ octets_of (take n xs)
+unfolding octets_of
+take-octets zero xs = refl
+take-octets (suc n) [] = take-nil (2 * suc n)
+take-octets (suc n) (x ∷ xs) = rw (next n) (ap (λ (l : List ℕ). x / 256 ∷ x % 256 ∷ l) (take-octets n xs))
 
 two-more : (xs d : List ℕ) (i : ℕ) → i < length xs → 2 * length xs ≤ length d
     → set (set (laid (octets_of (take i xs)) d) (2 * i) (get_or xs i 0 / 256)) (suc (2 * i)) (get_or xs i 0 % 256) ≡ laid (octets_of (take (suc i) xs)) d

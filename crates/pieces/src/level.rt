@@ -19,7 +19,8 @@ pub(crate) fn closed(kind: u32, w: Going) -> Counts
         return w.back;
     }
     let f = w.levels[w.depth - 1];
-    taking::level::close_level(kind, f.level, &f.marks, f.home, w.counts)
+    let lines = taking::line::of_level(f.level);
+    taking::level::close_level(kind, f.level, lines, &f.marks, f.home, w.counts)
 }
 
 // The innermost level is closed if it has nothing left; the one around it is not watched.

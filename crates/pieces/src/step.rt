@@ -51,6 +51,7 @@ pub(crate) fn take(kind: u32, w: Going, first: u8, came: usize) -> Stride<Going>
 {
     let h = level::head_of(&w.some, first);
     let f = w.levels[w.depth - 1];
+    let lines = taking::line::of_level(f.level);
     let mut marks = f.marks;
     let mut row = [0; 6];
     let mut alone = Tally {
@@ -64,6 +65,7 @@ pub(crate) fn take(kind: u32, w: Going, first: u8, came: usize) -> Stride<Going>
     let enters = take_one(
         kind,
         f.level,
+        lines,
         h,
         &[],
         w.place,

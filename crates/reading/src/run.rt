@@ -5,7 +5,7 @@ ghost use Rattle.taking.specs.Held.{tallied};
 ghost use Rattle.reading.specs.Scan.{scan, scan_in, Fine, Enters, Ran};
 
 use answers::Refusal;
-use taking::{Tally, element, level};
+use taking::{Tally, element, level, line};
 
 // The elements of a part that begins at `base`, at the level `level` whose place is `home`. Each element says where the next begins, so that no `for` goes over them.
 #[cycle(enter_group_read_run)]
@@ -22,6 +22,7 @@ pub(crate) fn read_run(
     ensures { Ran result tally.old tally.new (base + length part.now)
         (scan kind level fresh parent home base part.now (tallied tally.old)) }
 {
+    let lines = line::of_level(level);
     let mut seen = [0u8; 32];
     let mut at = 0;
     while at < part.len() {
@@ -34,13 +35,13 @@ pub(crate) fn read_run(
         let value = at + 4;
         let next = value + h.len;
         let own = &part[value..next];
-        let enters = element::take_one(kind, level, h, own, place, parent, &mut seen, tally);
+        let enters = element::take_one(kind, level, lines, h, own, place, parent, &mut seen, tally);
         if let Some(inside) = enters {
             enter_group(kind, inside.level, own, place, tally)?;
         }
         at = next;
     }
-    tally.counts = level::close_level(kind, level, &seen, home, tally.counts);
+    tally.counts = level::close_level(kind, level, lines, &seen, home, tally.counts);
     Ok(())
 }
 

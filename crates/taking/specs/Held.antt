@@ -8,7 +8,7 @@ use Rattle.rules.specs.Frames.{Element}
 use Rattle.rules.specs.Standing.{Item, kept, value_place, line_in, standing, item_of, marked, entered}
 use Rattle.rules.specs.declared.Head.{Head}
 use Rattle.standings.specs.Faults.{first_fault, lesser}
-use Rattle.taking.specs.Lent.{AtLevel, level_of, limited_of}
+use Rattle.taking.specs.Lent.{Lines, level_of, limited_of}
 use Rattle.taking.specs.Lacks.{fault}
 use Rattle.taking.specs.declared.Counts.{Counts}
 use Rattle.taking.specs.declared.Inside.{Inside}
@@ -62,8 +62,8 @@ pub record Few (c : Counts) (n : ℕ) : Type 0 where
   pub rows : c.rows ≤ n
 
 -- what the end of a level asks
-pub record Closes (k v o : ℕ) : Type 0 where
-  pub there : AtLevel k v
+pub record Closes (k v : ℕ) (xs : List ℕ) (o : ℕ) : Type 0 where
+  pub lent : Lines k v xs
   pub home : o ≤ largest_message
 
 -- the head r of the element at `at` of a part
@@ -93,8 +93,8 @@ pub record Added (t t' : Tally) (h : Head) (place parent stand short : ℕ) : Ty
   pub rows : t'.rows.now ≡ put_numbers t.rows.now t.counts.rows parent h.typ h.inst (place + 4) h.len stand
 
 -- what taking the element with head h at `at` asks: n octets of its value are lent
-pub record Takes (k v : ℕ) (h : Head) (n at p : ℕ) (c : Counts) : Type 0 where
-  pub there : AtLevel k v
+pub record Takes (k v : ℕ) (xs : List ℕ) (h : Head) (n at p : ℕ) (c : Counts) : Type 0 where
+  pub lent : Lines k v xs
   pub inst : h.inst < any_instance
   pub parent : p ≤ largest_message
   pub few : Few c at

@@ -108,6 +108,7 @@ impl<'a> Tally<'a> {
 pub fn take_one(
     kind: u32,
     level: u8,
+    lines: &[u32],
     h: Head,
     value: &[u8],
     place: usize,
@@ -115,10 +116,9 @@ pub fn take_one(
     seen: &mut [u8; 32],
     tally: &mut Tally,
 ) -> Option<Inside>
-    requires { Takes kind level h (length value.now) place parent tally.old.counts }
+    requires { Takes kind level lines.now h (length value.now) place parent tally.old.counts }
     ensures { Tallied result seen.new tally.new kind level seen.old parent place (element h (frames_of value.now)) tally.old }
 {
-    let lines = line::of_level(level);
     let Some(n) = line::find(kind, lines, h.typ, h.inst) else {
         tally.add(h, place, parent, 1, tally.counts.short);
         return None;

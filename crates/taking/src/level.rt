@@ -16,11 +16,10 @@ pub(crate) fn line_lacks(kind: u32, line: u32, mark: u8) -> bool
 
 // The first mandatory line of a level, in listing order, of which none was kept; `home` is the level's place. Each line says how many after it
 // are passed over, so that no `for` goes over them. 0 is none, as in the counts.
-pub(crate) fn lacking(kind: u32, level: u8, seen: &[u8; 32], home: usize) -> usize
-    requires { Closes kind level home }
+pub(crate) fn lacking(kind: u32, level: u8, lines: &[u32], seen: &[u8; 32], home: usize) -> usize
+    requires { Closes kind level lines.now home }
     ensures { result ≡ lack_of book kind level seen.now home }
 {
-    let lines = line::of_level(level);
     let mut n = 0;
     while n < lines.len() {
         let line = lines[n];
@@ -34,12 +33,19 @@ pub(crate) fn lacking(kind: u32, level: u8, seen: &[u8; 32], home: usize) -> usi
 
 // The counts at the end of a level.
 #[tactic(auto, unfolding(crate::specs::Held::closed))]
-pub fn close_level(kind: u32, level: u8, seen: &[u8; 32], home: usize, counts: Counts) -> Counts
-    requires { Closes kind level home }
+pub fn close_level(
+    kind: u32,
+    level: u8,
+    lines: &[u32],
+    seen: &[u8; 32],
+    home: usize,
+    counts: Counts,
+) -> Counts
+    requires { Closes kind level lines.now home }
     ensures { result ≡ closed counts (lack_of book kind level seen.now home) }
 {
     Counts {
-        gap: standings::lesser_of(counts.gap, lacking(kind, level, seen, home)),
+        gap: standings::lesser_of(counts.gap, lacking(kind, level, lines, seen, home)),
         ..counts
     }
 }

@@ -1,12 +1,15 @@
 -- Text put after text is the two put at once; and what is put from the start stands there. Assumes nothing.
 --     puts_append, then-puts   one text after another
+--     puts-length, same-room   no octet is put past the buffer
 --     puts-start               from the start of a buffer: as much as fits, over what stood there
 use mathlib.Core.Path.{◌≡◌, refl, sym, ap, ◌∙◌}
+use mathlib.Core.Bool.{Bool, true, false, cond}
 use mathlib.Core.List.{List, [], ◌∷◌, ◌++◌}
 use Prim.Native.Nat.{ℕ, ◌+◌, ◌≤◌, ◌<◌}
 use native.Mathlib.Omega.{arith}
 use borrow.Author.Tests.{lt-ltb, le-ltb}
-use lib.ListN.{length, take, set, length-append}
+use lib.Dec.{ltb}
+use lib.ListN.{length, take, set, length-append, length-set}
 use Rattle.rules.specs.Table.{laid}
 use Rattle.wording.specs.Puts.{Paper, put_one, puts, Puts}
 
@@ -17,6 +20,19 @@ puts_append (x ∷ a) c p = puts_append a c (put_one x p)
 
 pub then-puts : {a c : List ℕ} {at₀ at₁ at₂ : ℕ} {out₀ out₁ out₂ : List ℕ} → Puts a at₀ out₀ at₁ out₁ → Puts c at₁ out₁ at₂ out₂ → Puts (a ++ c) at₀ out₀ at₂ out₂
 then-puts {a} {c} {at₀} {out₀ = out₀} p q = record { done = puts_append a c (record { at = at₀; out = out₀ }) ∙ ap (puts c) p.done ∙ q.done }
+
+-- no octet is put past the buffer
+pub puts-length : (t : List ℕ) (p : Paper) → length (puts t p).out ≡ length p.out
+unfolding puts put_one
+puts-length [] p = refl
+puts-length (x ∷ t) p = puts-length t (put_one x p) ∙ go (ltb p.at (length p.out))
+  where
+    go : (f : Bool) → length (cond f (record { at = p.at + 1; out = set p.out p.at x }) p).out ≡ length p.out
+    go true = length-set p.out p.at x
+    go false = refl
+
+pub same-room : {t : List ℕ} {at₀ at₁ : ℕ} {out₀ out₁ : List ℕ} → Puts t at₀ out₀ at₁ out₁ → length out₁ ≡ length out₀
+same-room {t} {at₀} {out₀ = out₀} p = sym (ap (λ (q : Paper). length q.out) p.done) ∙ puts-length t (record { at = at₀; out = out₀ })
 
 pub puts_none : (at₀ : ℕ) (out₀ : List ℕ) → Puts [] at₀ out₀ at₀ out₀
 unfolding puts

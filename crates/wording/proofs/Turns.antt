@@ -1,6 +1,6 @@
 -- A loop that puts one text for each number of a run. Assumes nothing.
---     turns-start, turns_next, turns-end, turns-all   the loop: what is left to put, put where it stands, is all put at the start
---     turns-length                                    a bound for each text is one for all; then for columns and octets
+--     for_each-more   the text of one number more
+--     turns-length    a bound for each text is one for all; then for columns and octets
 use mathlib.Core.Path.{◌≡◌, refl, sym, ap, ◌∙◌}
 use mathlib.Core.List.{List, [], ◌∷◌, ◌++◌, append_assoc, append-nil}
 use Prim.Native.Nat.{ℕ, zero, suc, ◌+◌, ◌-◌, ◌*◌, ◌≤◌}

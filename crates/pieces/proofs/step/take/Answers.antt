@@ -13,7 +13,7 @@ take_one-enters-requires c =
     let p = c.requires in
     let s = slot_at c.args.w.levels (c.args.w.depth - 1) p.sized.each in
     record {
-      there = record { kind = p.sized.kind p.inside; level = s.level };
+      lent = record { kind = p.sized.kind p.inside; level = s.level; lines = c.of_level-lines.ensures };
       inst = rw c.head_of-h.ensures (omega arith);
       parent = s.parent;
       few = record { kept = omega arith; rows = omega arith };

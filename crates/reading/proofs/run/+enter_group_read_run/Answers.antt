@@ -52,7 +52,7 @@ read_run-returns-in_default t c =
 pub read_run-take_one-enters-requires : goal.read_run-take_one-enters-requires
 read_run-take_one-enters-requires t c =
     record {
-      there = c.requires.there;
+      lent = record { kind = c.requires.there.kind; level = c.requires.there.level; lines = c.of_level-lines.ensures };
       inst = c.in-Some.ensures.looked.inst;
       parent = c.requires.parent;
       few = c.loop-at.invariant.few;
@@ -121,7 +121,7 @@ read_run-loop-at-preserved-in_ok-enter_group t c =
     }
 
 pub read_run-close_level-tally-requires : goal.read_run-close_level-tally-requires
-read_run-close_level-tally-requires t c = record { there = c.requires.there; home = c.requires.home }
+read_run-close_level-tally-requires t c = record { lent = record { kind = c.requires.there.kind; level = c.requires.there.level; lines = c.of_level-lines.ensures }; home = c.requires.home }
 
 pub read_run-returns : goal.read_run-returns
 read_run-returns t c =

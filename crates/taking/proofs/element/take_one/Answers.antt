@@ -1,18 +1,10 @@
 -- `element::take_one` judges one element by its line, writes its row, marks it and counts it. Assumes nothing.
-use mathlib.Core.Path.{◌≡◌, ◌∙◌}
-use mathlib.Core.List.{List}
-use Prim.Native.Nat.{ℕ}
+use mathlib.Core.Path.{◌∙◌}
 use Rattle.rules.specs.Frames.{element, frames_of}
-use Rattle.rules.specs.Listings.{book, listing}
-use Rattle.listings.specs.Data.{entries_of}
-use Rattle.taking.specs.Lent.{AtLevel, Lines}
 use Rattle.taking.proofs.Lent.{line, must-at, many-at, inner_level, inner-limited, inner_some, limited-at, not-found, found_at, has_mark}
 use Rattle.taking.proofs.Crowds.{over-is}
 use Rattle.taking.proofs.Taking.{same-short, took_unlisted, took-kept, took-aside}
 use Rattle.taking.proofs.element.take_one.Goals as goal
-
-lines-of : {k v : ℕ} {xs : List ℕ} → AtLevel k v → xs ≡ entries_of (listing book v) → Lines k v xs
-lines-of a e = record { kind = a.kind; level = a.level; lines = e }
 
 pub returns-in_default : goal.returns-in_default
 returns-in_default c =
@@ -20,25 +12,25 @@ returns-in_default c =
       same = c.add.ensures.same;
       took = took_unlisted c.args.kind c.args.level c.args.seen.now c.args.parent c.args.place (element c.args.h (frames_of c.args.value.now)) c.args.tally.now.counts c.args.tally.now.rows.now c.requires.few
           c.add.new.self.counts c.add.new.self.rows.now
-          (not-found (lines-of c.requires.there c.of_level-lines.ensures) c.args.h.typ c.args.h.inst c.requires.inst c.find.ensures c.in_default.is)
+          (not-found c.requires.lent c.args.h.typ c.args.h.inst c.requires.inst c.find.ensures c.in_default.is)
           c.add.ensures.rows c.add.ensures.counts;
     }
 
 pub bounds-lines-n : goal.bounds-lines-n
-bounds-lines-n c = (found_at (lines-of c.requires.there c.of_level-lines.ensures) c.args.h.typ c.args.h.inst c.requires.inst c.find.ensures c.in-Some.is).1
+bounds-lines-n c = (found_at c.requires.lent c.args.h.typ c.args.h.inst c.requires.inst c.find.ensures c.in-Some.is).1
 
 pub bounds-seen-n : goal.bounds-seen-n
-bounds-seen-n c = has_mark (lines-of c.requires.there c.of_level-lines.ensures) c.args.h.typ c.args.h.inst c.requires.inst c.find.ensures c.in-Some.is
+bounds-seen-n c = has_mark c.requires.lent c.args.h.typ c.args.h.inst c.requires.inst c.find.ensures c.in-Some.is
 
 pub bounds-seen-n-2 : goal.bounds-seen-n-2
-bounds-seen-n-2 c = has_mark (lines-of c.requires.there c.of_level-lines.ensures) c.args.h.typ c.args.h.inst c.requires.inst c.find.ensures c.in-Some.is
+bounds-seen-n-2 c = has_mark c.requires.lent c.args.h.typ c.args.h.inst c.requires.inst c.find.ensures c.in-Some.is
 
 pub bounds-seen-n-3 : goal.bounds-seen-n-3
-bounds-seen-n-3 c = has_mark (lines-of c.requires.there c.of_level-lines.ensures) c.args.h.typ c.args.h.inst c.requires.inst c.find.ensures c.in-Some.is
+bounds-seen-n-3 c = has_mark c.requires.lent c.args.h.typ c.args.h.inst c.requires.inst c.find.ensures c.in-Some.is
 
 pub returns-then-stand-eq0 : goal.returns-then-stand-eq0
 returns-then-stand-eq0 c =
-    let s = lines-of c.requires.there c.of_level-lines.ensures in
+    let s = c.requires.lent in
     let f = found_at s c.args.h.typ c.args.h.inst c.requires.inst c.find.ensures c.in-Some.is in
     record {
       same = c.add-then-stand-eq0.ensures.same;
@@ -54,7 +46,7 @@ returns-then-stand-eq0 c =
 
 pub returns : goal.returns
 returns c =
-    let s = lines-of c.requires.there c.of_level-lines.ensures in
+    let s = c.requires.lent in
     let f = found_at s c.args.h.typ c.args.h.inst c.requires.inst c.find.ensures c.in-Some.is in
     record {
       same = c.add-2.ensures.same;

@@ -6,7 +6,7 @@ use Rattle.taking.proofs.Lent.{small}
 use Rattle.taking.proofs.level.lacking.Goals as goal
 
 pub loop-n-init : goal.loop-n-init
-loop-n-init c = begun (record { kind = c.requires.there.kind; level = c.requires.there.level; lines = c.of_level-lines.ensures })
+loop-n-init c = begun c.requires.lent
 
 pub offset_bounds-lines-n : goal.offset_bounds-lines-n
 offset_bounds-lines-n c = omega (arith, small c.loop-n.invariant.lent)
