@@ -11,7 +11,7 @@ use Rattle.rules.specs.Verdicts.{refuses, first}
 use Rattle.rules.specs.declared.Verdict.{Verdict}
 use Rattle.answers.specs.declared.Refusal.{Refusal}
 use Rattle.answers.specs.declared.Refusal.TheVariants.{Kind, Size, Version, Header, Piggybacked, Length, MessageType, OtherKind, Teid, Cut, Table, Short, Missing, Copy, Given, Room, Misread, State}
-use Rattle.answers.specs.Refusals.{verdict_of, sent_of}
+use Rattle.answers.specs.Refusals.{verdict_of, outcome, sent_of}
 
 pub refusing : (v : Verdict) → (v.code ≡ 0 → ⊥) → refuses v ≡ true
 refusing v n = lt-ltb 0 v.code (pos_of_ne-zero n)
@@ -58,3 +58,10 @@ sent_unique (Ok n) (Ok n') a a' v l = rw l
 sent_unique (Ok n) (Err w) a a' v l = absurd (no_error refl a' v)
 sent_unique (Err w) (Ok n) a a' v l = absurd (no_error refl a (sym v))
 sent_unique (Err w) (Err w') a a' v l = rw v
+
+-- and an outcome without a number is the one of its verdict
+pub outcome_unique : (r r' : Result (Unit {0}) Verdict) → is_err r ≡ is_err r' → outcome r ≡ outcome r' → r ≡ r'
+outcome_unique (Ok u) (Ok u') e o = refl
+outcome_unique (Ok u) (Err w) e o = let t : true ≡ false = sym e in let z : ◌≡◌ {A = ℕ} 0 1 = cc in absurd (omega arith)
+outcome_unique (Err w) (Ok u) e o = let t : true ≡ false = e in let z : ◌≡◌ {A = ℕ} 0 1 = cc in absurd (omega arith)
+outcome_unique (Err w) (Err w') e o = rw o

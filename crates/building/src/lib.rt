@@ -66,7 +66,7 @@ pub fn build<T: Numbers>(
     let typ = u32::from(table.at(4));
     let header = early(kind, typ, teid, sequence, table, values)?;
     let count = usize::from(table.at(0));
-    // A row takes four octets or more, so that of so many the sizes need not be summed.
+    // Each of these rows takes four octets or more, so that the sizes of so many need not be summed.
     if 1022 < count {
         return Err(Refusal::Room.into());
     }

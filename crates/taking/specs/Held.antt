@@ -92,7 +92,7 @@ pub record Added (t t' : Tally) (h : Head) (place parent stand short : ℕ) : Ty
   pub counts : t'.counts ≡ counted t.counts stand short
   pub rows : t'.rows.now ≡ put_numbers t.rows.now t.counts.rows parent h.typ h.inst (place + 4) h.len stand
 
--- what taking the element with head h at `at` asks: n octets of its value are lent
+-- what taking the element with head h at `at` asks: the lines xs of its level; n octets of its value are lent
 pub record Takes (k v : ℕ) (xs : List ℕ) (h : Head) (n at p : ℕ) (c : Counts) : Type 0 where
   pub lent : Lines k v xs
   pub inst : h.inst < any_instance
