@@ -75,7 +75,7 @@ module _ (kind typ teid sequence : ℕ) (t values room : List ℕ) where
       let b = by-early r in
       record { verdict_is = w ∙ f ∙ sym b; length_is = rw (b, r); room_left = rw (b, r) }
 
-  -- more than 1,022 rows are more than 4,096 octets, however short each is
+  -- a right row takes four octets or more, and the header eight: 1,023 rows are more than the 4,096 of a message
   many-rows : (k n : ℕ) → ((j : ℕ) → n ≤ j → j < n + k → row_standing t j ≡ kept) → 4 * k ≤ sizes (givens t values n k)
   unfolding sizes givens given size_of
   many-rows zero n f = omega arith
